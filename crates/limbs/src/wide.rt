@@ -1,0 +1,40 @@
+// A number of 128 bits as two words, hi * 2^64 + lo.
+ghost use mathlib.Core.Path.{_≡_};
+ghost use Prim.Native.Nat.{_+_, _*_, _/_, _%_, _^_};
+
+pub struct Wide {
+    pub hi: u64,
+    pub lo: u64,
+}
+
+// The exact product of two words, from their 32-bit halves. Each sum takes one carry at a time, so that it fits in a word.
+pub fn product(a: u64, b: u64) -> Wide
+    ensures { λ r. ⌜ (r .hi ≡ a * b / 2 ^ 64) × (r .lo ≡ a * b % 2 ^ 64) ⌝ }
+{
+    let a1 = a >> 32;
+    let a0 = a % 0x1_0000_0000;
+    let b1 = b >> 32;
+    let b0 = b % 0x1_0000_0000;
+    let low = a0 * b0;
+    let one = a1 * b0 + (low >> 32);
+    let two = a0 * b1 + one % 0x1_0000_0000;
+    Wide {
+        hi: a1 * b1 + (one >> 32) + (two >> 32),
+        lo: (two << 32) + low % 0x1_0000_0000,
+    }
+}
+
+// The sum, without what passes 2^128.
+pub fn plus(a: Wide, b: Wide) -> Wide
+    ensures { λ r. ⌜ (r .hi ≡ (a .hi + b .hi + (a .lo + b .lo) / 2 ^ 64) % 2 ^ 64) × (r .lo ≡ (a .lo + b .lo) % 2 ^ 64) ⌝ }
+{
+    let lo = std::num::wrapping_add_u64(a.lo, b.lo);
+    let hi = std::num::wrapping_add_u64(a.hi, b.hi);
+    if lo < a.lo {
+        return Wide {
+            hi: std::num::wrapping_add_u64(hi, 1),
+            lo: lo,
+        };
+    }
+    Wide { hi: hi, lo: lo }
+}

@@ -1,0 +1,2 @@
+-- The laws, in reading order.
+pub mod Patterns

@@ -1,0 +1,2 @@
+-- What document 01 says of the number leaves.
+pub mod Units

@@ -1,0 +1,3 @@
+pub mod Stick
+pub mod Packing
+pub mod Nearness
