@@ -2,24 +2,28 @@
 -- there it is an infinity, above it a NaN. Magnitudes' patterns sort as the values do. Assumes nothing.
 use mathlib.Core.Path.{_≡_, refl, sym, ap, ap₂, _∙_, subst}
 use mathlib.Core.Logic.{_⊎_, inl, inr}
-use mathlib.Core.Bool.{Bool, true, false, not, cond, false≢true}
+use mathlib.Core.Bool.{Bool, true, false, not, cond}
 use Prim.Native.Nat.{ℕ, zero, suc, _+_, _-_, _*_, _/_, _%_, _^_, _≤_, _<_}
-use native.Mathlib.Nat.{le-trans, le-of-eq, lt-of-lt-of-le, lt-irrefl, lt-suc-self, eq-or-lt-of-le, zero-add, mul-one, mul-assoc, mul-pos, mul-comm, mul-le-mul-left, mul-le-mul-right, mul-lt-mul-of-pos-right, div-add-mod', div-eq-of-lt, mod-eq-of-lt, mod-lt, mod-eq-sub-mod, add-mod-left, mul-add-mod-self-left, mul-div-cancel, mul-mod-left, div-lt-iff-lt-mul, pow-succ', zero-lt-suc, le-add-right}
+use native.Mathlib.Nat.{le-trans, le-of-eq, lt-of-lt-of-le, lt-of-not-le, lt-trans, lt-irrefl, eq-zero-or-pos, eq-or-lt-of-le, zero-add, zero-mul, mul-one, mul-assoc, mul-right-comm, mul-pos, mul-le-mul-left, mul-le-mul-right, mul-lt-mul-of-pos-right, div-add-mod', div-eq-of-lt, mod-eq-of-lt, mod-lt, mod-eq-sub-mod, add-mod-left, mul-add-mod-self-left, mul-div-cancel, mul-mod-left, div-lt-iff-lt-mul, pow-suc, pow-succ', zero-lt-suc, le-add-right}
 use native.Mathlib.Omega.{arith}
-use borrow.Author.Tests.{lt-ltb, le-leb, lt-leb, ne-eqb, eq-eqb}
+use borrow.Author.Tests.{lt-ltb, le-ltb, le-leb, lt-leb, ne-eqb, eq-eqb}
 use lib.Dec.{T, leb, ltb, eqb, leb→le, nleb→lt, nltb→le}
-use lib.Pow.{pow-pos, pow-mono, shr-mono}
-use lib.Ieee.{Float, nan, inf, fin, Format, prec, emax, low, up, down, odd, fits, isNan, hid, ones, top, ofFields, ofBits, nanBits, toBits}
-use lib.Ieee.Fits.{down-pos}
-use lib.Ieee.Exact.{HasValue, odd-sign}
+use lib.Pow.{pow-add, pow-pos, pow-mono, shr-mono}
+use lib.IntN.{ℤ}
+use lib.Ieee.{Float, nan, inf, fin, Format, prec, emax, low, up, down, size, odd, round, fits, isNan, hid, ones, top, ofFields, ofBits, nanBits, toBits}
+use lib.Ieee.Fits.{up-pos, down-pos, two, round-fits}
+use lib.Ieee.Exact.{HasValue, odd-sign, round-exact}
 use lib.Ieee.Bits.{ofBits-toBits, toBits-lt, nanBits-is, nanBits-above}
+use lib.Ieee.Nearest.{div-same}
 use lib.Ieee.Scale.{finite}
 use Rattle.number.specs.Units.{unitsOf}
+use Rattle.number.specs.Leaves.{negative}
+use Rattle.number.proofs.Order.{holds, finite-number, not-nan, is-nan}
 
 -- ---- the size in units
 
 -- by the exponent's field and the digits below the leading one, which a field of 0 lacks
-abbrev fieldsSize : Format → ℕ → ℕ → ℕ
+abbrev pub fieldsSize : Format → ℕ → ℕ → ℕ
 fieldsSize f zero t = t
 fieldsSize f (suc x) t = (hid f + t) * 2 ^ x
 
@@ -99,28 +103,37 @@ infinite-signed f s =
     ∙ ap (λ (t : ℕ). ofFields f s (ones f * hid f / hid f) t) (mul-mod-left (ones f) (hid f))
     ∙ fields-infinite f s (ones f * hid f / hid f) (mul-div-cancel (ones f) (hid-pos f))
 
+pub infinite-written : (f : Format) (s : Bool) → toBits f (inf s) ≡ cond s (top f) 0 + ones f * hid f
+unfolding toBits
+infinite-written f s = refl
+
+pub infinite-pos : (f : Format) → 0 < ones f * hid f
+infinite-pos f = mul-pos (omega arith) (hid-pos f)
+
 pub infinite-value : (f : Format) → ofBits f (ones f * hid f) ≡ inf false
 infinite-value f = ap (ofBits f) (sym (zero-add (ones f * hid f))) ∙ infinite-signed f false
 
 pub infinite-negative : (f : Format) → ofBits f (top f + ones f * hid f) ≡ inf true
 infinite-negative f = infinite-signed f true
 
--- ---- NaN
+-- ---- the sign, and NaN
 
-is-nan : (x : Float) → isNan x ≡ true → x ≡ nan
-unfolding isNan
-is-nan nan e = refl
-is-nan (inf t) e = absurd (false≢true e)
-is-nan (fin t m e) k = absurd (false≢true k)
+-- what is left of a pattern without its sign, and the sign
+pub sign-off : (f : Format) (s : Bool) (b : ℕ) → b < top f → (cond s (top f) 0 + b) % top f ≡ b
+sign-off f true b l = add-mod-left (top f) b ∙ mod-eq-of-lt l
+sign-off f false b l = ap (λ (n : ℕ). n % top f) (zero-add b) ∙ mod-eq-of-lt l
+
+sign-test : (f : Format) (s : Bool) (b : ℕ) → b < top f → leb (top f) (cond s (top f) 0 + b) ≡ s
+sign-test f true b l = le-leb (top f) (top f + b) (le-add-right (top f) b)
+sign-test f false b l = ap (leb (top f)) (zero-add b) ∙ lt-leb (top f) b l
 
 pub nan-signed : (f : Format) (s : Bool) (b : ℕ) → ones f * hid f < b → b < top f → ofBits f (cond s (top f) 0 + b) ≡ nan
 nan-signed f s b h l =
     let n = cond s (top f) 0 + b in
-    is-nan (ofBits f n) (sym (nanBits-is f n) ∙ nanBits-above f n ∙ ap (ltb (ones f * hid f)) (rest s) ∙ lt-ltb (ones f * hid f) b h)
-  where
-    rest : (s : Bool) → (cond s (top f) 0 + b) % top f ≡ b
-    rest true = add-mod-left (top f) b ∙ mod-eq-of-lt l
-    rest false = ap (λ (n : ℕ). n % top f) (zero-add b) ∙ mod-eq-of-lt l
+    is-nan (ofBits f n) (holds (sym (nanBits-is f n) ∙ nanBits-above f n ∙ ap (ltb (ones f * hid f)) (sign-off f s b l) ∙ lt-ltb (ones f * hid f) b h))
+
+pub not-nan-bits : (f : Format) (n : ℕ) → n % top f ≤ ones f * hid f → T (not (nanBits f n))
+not-nan-bits f n h = rw (nanBits-above f n, le-ltb (ones f * hid f) (n % top f) h) tt
 
 -- ---- patterns sort as the sizes do
 
@@ -155,12 +168,20 @@ sizes-rise f a b l = go (eq-or-lt-of-le (shr-mono {a = a} {b = b} (prec f - 1) (
         (digits-rise f (b / hid f) (a % hid f) (b % hid f) (omega (arith, div-add-mod' a (hid f), div-add-mod' b (hid f))))
     go (inr h) = fields-rise f (a / hid f) (a % hid f) (b / hid f) (b % hid f) (mod-lt a (hid-pos f)) h
 
+pub sizes-tell : (f : Format) (a b : ℕ) → sizeAt f a < sizeAt f b → a < b
+sizes-tell f a b h = lt-of-not-le (λ g. elim (eq-or-lt-of-le g) [ inl e ↦ lt-irrefl (sizeAt f b) (subst (λ (n : ℕ). sizeAt f n < sizeAt f b) (sym e) h) | inr l ↦ lt-irrefl (sizeAt f a) (lt-trans h (sizes-rise f b a l)) ])
+
 -- ---- from a value to its units
 
+pub units-of-fraction : (f : Format) (x : Float) (s : Bool) (a c : ℕ) → 0 < c → HasValue x s a c → unitsOf f x ≡ a * 2 ^ low f / c
+units-of-fraction f nan s a c C h = absurd h
+units-of-fraction f (inf t) s a c C h = absurd h
+units-of-fraction f (fin t m e) s a c C h =
+    let l = 2 ^ low f in
+    div-same (m * up e * l) (down e) (a * l) c (down-pos e) C (mul-right-comm (m * up e) l c ∙ ap (λ (n : ℕ). n * l) (h .1) ∙ mul-right-comm a (down e) l)
+
 pub units-of-value : (f : Format) (x : Float) (s : Bool) (a : ℕ) → HasValue x s a (2 ^ low f) → unitsOf f x ≡ a
-units-of-value f nan s a h = absurd h
-units-of-value f (inf t) s a h = absurd h
-units-of-value f (fin t m e) s a h = ap (λ (n : ℕ). n / down e) (h .1) ∙ mul-div-cancel a (down-pos e)
+units-of-value f x s a h = units-of-fraction f x s a (2 ^ low f) (pow-pos (low f)) h ∙ mul-div-cancel a (pow-pos (low f))
 
 pub units-of-pattern : (f : Format) (s : Bool) (b : ℕ) → b < ones f * hid f → unitsOf f (ofBits f (cond s (top f) 0 + b)) ≡ sizeAt f b
 units-of-pattern f s b h = units-of-value f (ofBits f (cond s (top f) 0 + b)) s (sizeAt f b) (pattern-signed f s b h)
@@ -174,6 +195,7 @@ pub record Pattern (f : Format) (x : Float) : Type 0 where
   pub small : magnitude < ones f * hid f
   pub written : toBits f x ≡ cond sign (top f) 0 + magnitude
   pub reads : ofBits f (cond sign (top f) 0 + magnitude) ≡ x
+  pub value : HasValue x sign (sizeAt f magnitude) (2 ^ low f)
 
 -- a number below 2 * c is its upper half's weight and the rest
 halves : (c n : ℕ) → 0 < c → n < 2 * c → n ≡ cond (leb c n) c 0 + n % c
@@ -184,12 +206,8 @@ halves c n C h = go (leb c n) (leb→le c n) (nleb→lt c n)
     go false l g = sym (zero-add (n % c) ∙ mod-eq-of-lt (g tt))
 
 number-bits : (f : Format) (n : ℕ) → T (finite (ofBits f n)) → n % top f ≤ ones f * hid f
-number-bits f n h = nltb→le (ones f * hid f) (n % top f) (subst (λ (t : Bool). T (not t)) (sym (nanBits-is f n) ∙ nanBits-above f n) (no-nan (ofBits f n) h))
-  where
-    no-nan : (x : Float) → T (finite x) → T (not (isNan x))
-    no-nan nan h = absurd h
-    no-nan (inf s) h = absurd h
-    no-nan (fin s m e) h = unfold isNan in tt
+number-bits f n h =
+    nltb→le (ones f * hid f) (n % top f) (subst (λ (t : Bool). T (not t)) (sym (nanBits-is f n) ∙ nanBits-above f n) (not-nan (ofBits f n) (finite-number (ofBits f n) h)))
 
 pub pattern-below : (f : Format) (x : Float) → T (fits f x) → T (finite x) → Pattern f x
 pattern-below f x F h =
@@ -199,13 +217,101 @@ pattern-below f x F h =
     let split : n ≡ cond s (top f) 0 + b = halves (top f) n (top-pos f) (toBits-lt f x F) in
     let back : ofBits f n ≡ x = ofBits-toBits f x F in
     let number : b ≤ ones f * hid f = number-bits f n (subst (λ (v : Float). T (finite v)) (sym back) h) in
+    let below : b < ones f * hid f = elim (eq-or-lt-of-le number) [
+      | inl e ↦ absurd (subst (λ (v : Float). T (finite v)) (sym back ∙ ap (ofBits f) (split ∙ ap (λ (c : ℕ). cond s (top f) 0 + c) e) ∙ infinite-signed f s) h)
+      | inr l ↦ l
+    ] in
+    let read : ofBits f (cond s (top f) 0 + b) ≡ x = ap (ofBits f) (sym split) ∙ back in
     record {
       sign = s;
       magnitude = b;
-      small = elim (eq-or-lt-of-le number) [
-        | inl e ↦ absurd (subst (λ (v : Float). T (finite v)) (sym back ∙ ap (ofBits f) (split ∙ ap (λ (c : ℕ). cond s (top f) 0 + c) e) ∙ infinite-signed f s) h)
-        | inr l ↦ l
-      ];
+      small = below;
       written = split;
-      reads = ap (ofBits f) (sym split) ∙ back;
+      reads = read;
+      value = subst (λ (v : Float). HasValue v s (sizeAt f b) (2 ^ low f)) read (pattern-signed f s b below);
     }
+
+-- with the value's own sign
+pub pattern-of : (f : Format) (s : Bool) (m : ℕ) (e : ℤ) → T (fits f (fin s m e)) → (b : ℕ) × (b < ones f * hid f) × (toBits f (fin s m e) ≡ cond s (top f) 0 + b) × HasValue (fin s m e) s (sizeAt f b) (2 ^ low f)
+pattern-of f s m e F =
+    let p = pattern-below f (fin s m e) F tt in
+    (p .magnitude, p .small, p .written ∙ ap (λ (t : Bool). cond t (top f) 0 + p .magnitude) (sym (p .value .0)), (refl, p .value .1))
+
+-- every finite value that fits is a whole number of units
+pub units-value : (f : Format) (x : Float) → T (fits f x) → T (finite x) → HasValue x (negative x) (unitsOf f x) (2 ^ low f)
+unfolding negative
+units-value f nan F h = absurd h
+units-value f (inf s) F h = absurd h
+units-value f (fin s m e) F h =
+    let p = pattern-of f s m e F in
+    subst (λ (a : ℕ). HasValue (fin s m e) s a (2 ^ low f)) (sym (units-of-value f (fin s m e) s (sizeAt f (p .0)) (p .3))) (p .3)
+
+-- the pattern of a value that is not zero is not zero
+pub pattern-pos : (f : Format) (s : Bool) (m : ℕ) (e : ℤ) (b : ℕ) → HasValue (fin s (suc m) e) s (sizeAt f b) (2 ^ low f) → 0 < b
+pattern-pos f s m e b v = elim (eq-zero-or-pos b) [
+  | inl z ↦ absurd (lt-irrefl 0 (subst (λ (n : ℕ). 0 < n) (v .1 ∙ ap (λ (n : ℕ). n * down e) (ap (sizeAt f) z ∙ tiny f 0 (hid-pos f)) ∙ zero-mul (down e)) (mul-pos (mul-pos (zero-lt-suc m) (up-pos e)) (pow-pos (low f)))))
+  | inr p ↦ p
+]
+
+-- a number's sign is its pattern's highest digit
+pub sign-bit : (f : Format) (x : Float) → T (fits f x) → T (not (isNan x)) → leb (top f) (toBits f x) ≡ negative x
+unfolding isNan negative
+sign-bit f nan F h = absurd h
+sign-bit f (inf s) F h = ap (leb (top f)) (infinite-written f s) ∙ sign-test f s (ones f * hid f) (below-sign f (ones f * hid f) (le-of-eq refl))
+sign-bit f (fin s m e) F h = let p = pattern-of f s m e F in ap (leb (top f)) (p .2) ∙ sign-test f s (p .0) (below-sign f (p .0) (omega (arith, p .1)))
+
+-- ---- a value that fits is known by its sign and its size
+
+signedBits : Format → Bool → ℕ → ℕ
+signedBits f s n = cond s (top f) 0 + (size n - prec f) * hid f + n / 2 ^ (size n - prec f)
+
+bits-by-units : (f : Format) (s : Bool) (m : ℕ) (e : ℤ) → toBits f (fin s m e) ≡ signedBits f s (unitsOf f (fin s m e))
+unfolding toBits signedBits
+bits-by-units f s m e = refl
+
+pub one-value : (f : Format) (x y : Float) (s : Bool) (a c : ℕ) → 0 < c → T (fits f x) → T (fits f y) → HasValue x s a c → HasValue y s a c → x ≡ y
+one-value f nan y s a c C F G h k = absurd h
+one-value f (inf t) y s a c C F G h k = absurd h
+one-value f (fin t m e) nan s a c C F G h k = absurd k
+one-value f (fin t m e) (inf u) s a c C F G h k = absurd k
+one-value f (fin t m e) (fin u n d) s a c C F G h k =
+    let same : unitsOf f (fin t m e) ≡ unitsOf f (fin u n d) = units-of-fraction f (fin t m e) s a c C h ∙ sym (units-of-fraction f (fin u n d) s a c C k) in
+    sym (ofBits-toBits f (fin t m e) F)
+    ∙ ap (ofBits f) (bits-by-units f t m e ∙ ap₂ (signedBits f) (h .0 ∙ sym (k .0)) same ∙ sym (bits-by-units f u n d))
+    ∙ ofBits-toBits f (fin u n d) G
+
+-- ---- what fits is rounded to itself
+
+-- a finite size is below the overflow
+fields-below : (f : Format) (x t : ℕ) → x < ones f → t < hid f → fieldsSize f x t < 2 ^ (low f + suc (emax f))
+fields-below f x t X h =
+    lt-of-lt-of-le (fields-under f x t h)
+    (le-trans (le-of-eq (sym (pow-add 2 (prec f - 1) x))) (pow-mono {i = prec f - 1 + x} {j = low f + suc (emax f)} (reaches (prec f) (emax f) (two f) X)))
+  where
+    reaches : (p e : ℕ) → 2 ≤ p → x < 2 * e + 1 → p - 1 + x ≤ e + p - 2 + suc e
+    reaches p e h l = omega arith
+
+twice : (f : Format) → hid f * 2 ≡ 2 ^ prec f
+twice f = sym (pow-suc 2 (prec f - 1)) ∙ ap (λ (k : ℕ). 2 ^ k) (back (prec f) (two f))
+  where
+    back : (p : ℕ) → 2 ≤ p → suc (p - 1) ≡ p
+    back p h = omega arith
+
+-- and has no more digits than the format keeps
+fields-digits : (f : Format) (x t : ℕ) → t < hid f → (q : ℕ) × (j : ℕ) × (q * 2 ^ j ≡ fieldsSize f x t) × (q < 2 ^ prec f)
+fields-digits f zero t h = (t, 0, mul-one t, lt-of-lt-of-le h (pow-mono {i = prec f - 1} {j = prec f} (omega arith)))
+fields-digits f (suc x) t h = (hid f + t, x, refl, subst (λ (n : ℕ). hid f + t < n) (twice f) (below-twice (hid f) t h))
+
+pub round-self : (f : Format) (s : Bool) (m : ℕ) (e : ℤ) → T (fits f (fin s m e)) → round f s (m * up e) (down e) ≡ fin s m e
+unfolding sizeAt
+round-self f s m e F =
+    let p = pattern-of f s m e F in
+    let b = p .0 in
+    let t = b % hid f in
+    let x : b / hid f < ones f = div-lt-iff-lt-mul (hid-pos f) .1 (p .1) in
+    let h : t < hid f = mod-lt b (hid-pos f) in
+    let d = fields-digits f (b / hid f) t h in
+    one-value f (round f s (m * up e) (down e)) (fin s m e) s (m * up e) (down e) (down-pos e) (round-fits f s (m * up e) (down e)) F
+    (round-exact f s (m * up e) (down e) (d .0) (d .1) (down-pos e) (d .3) (subst (λ (n : ℕ). n < 2 ^ (low f + suc (emax f))) (sym (d .2)) (fields-below f (b / hid f) t x h))
+    (p .3 .1 ∙ ap (λ (n : ℕ). n * down e) (sym (d .2))))
+    (refl, refl)

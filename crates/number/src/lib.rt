@@ -1,1 +1,5 @@
-// The small number leaves of document 01, and the laws of order that recovery and timing stand on.
+// The small number leaves of document 01: each is total, and its contract is an equation to a
+// definition of specs/Leaves.antt.
+pub mod pick;
+pub mod size;
+pub mod step;

@@ -1,0 +1,4 @@
+pub mod Counting
+pub mod Filling
+pub mod Refusals
+pub mod RowScans

@@ -1,0 +1,120 @@
+-- Which of its operands `minimum` or `maximum` is, by the tests that tell: less, greater, equal with a sign, or a NaN on either side. Assumes nothing.
+use mathlib.Core.Path.{_≡_, refl, sym, _∙_}
+use mathlib.Core.Bool.{Bool, true, false, not, _&&_, _||_, cond}
+use lib.Dec.{T}
+use lib.Ieee.{Float, Format, lt, eq, isNan, fits}
+use lib.Ieee.Bits.{is-true, is-false}
+use Rattle.number.specs.Leaves.{negative, countsBelow, minimum, maximum}
+use Rattle.number.proofs.Order.{holds, fails, number, is-number, no-nan, lt-le, eq-le, eq-ge, eq-symmetric, le-number, lt-number, lt-not-le, unordered}
+use Rattle.number.proofs.Extremes.{→upTo, same-value}
+
+-- y counts first, or it does not
+abbrev chosen : Float → Float → Bool → Float
+chosen x y b = cond (isNan x) y (cond (isNan y) x (cond b y x))
+
+first : (x y : Float) (b : Bool) → T (number x) → b ≡ false → x ≡ chosen x y b
+first x y b X e = rw (no-nan x X, e) (go (isNan y))
+  where
+    go : (c : Bool) → x ≡ cond c x x
+    go true = refl
+    go false = refl
+
+second : (x y : Float) (b : Bool) → T (number x) → T (number y) → b ≡ true → y ≡ chosen x y b
+second x y b X Y e = rw (no-nan x X, no-nan y Y, e)
+
+below-yes : (x y : Float) → lt x y ≡ true → countsBelow x y ≡ true
+unfolding countsBelow
+below-yes x y h = rw h
+
+below-no : (x y : Float) → lt x y ≡ true → countsBelow y x ≡ false
+below-no x y h = let l = holds h in is-false (countsBelow y x) (→upTo x y (lt-le x y l) (λ g. absurd (lt-not-le x y l g)))
+
+-- of equal values the first counts below where it is negative and the second is not
+below-equal : (x y : Float) → eq x y ≡ true → countsBelow x y ≡ (negative x && not (negative y))
+unfolding countsBelow
+below-equal x y h = rw (not-less (lt x y) (λ l. lt-not-le x y l (eq-ge x y (holds h))), h)
+  where
+    not-less : (b : Bool) → (T b → ⊥) → b ≡ false
+    not-less true n = absurd (n tt)
+    not-less false n = refl
+
+-- equal values of one sign are the same
+equal : (f : Format) (x y : Float) → T (fits f x) → T (fits f y) → eq x y ≡ true → negative x ≡ negative y → x ≡ y
+equal f x y F G h s =
+    let e = holds h in
+    same-value f x y F G (eq-le x y e) (eq-ge x y e) (rw s (self (negative y))) (rw s (self (negative y)))
+  where
+    self : (b : Bool) → T (b || not b)
+    self true = tt
+    self false = tt
+
+equal-second : (f : Format) (x y : Float) (b : Bool) → T (fits f x) → T (fits f y) → eq x y ≡ true → (b ≡ false → negative x ≡ negative y) → y ≡ chosen x y b
+equal-second f x y true F G h s = let n = le-number x y (eq-le x y (holds h)) in second x y true (n .0) (n .1) refl
+equal-second f x y false F G h s = let n = le-number x y (eq-le x y (holds h)) in sym (equal f x y F G h (s refl)) ∙ first x y false (n .0) refl
+
+second-nan : (x y : Float) → T (number x) → lt x y ≡ false → lt y x ≡ false → eq x y ≡ false → T (isNan y)
+second-nan x y X l g n = go (isNan y) (is-number y)
+  where
+    go : (b : Bool) → (T (not b) → T (number y)) → T b
+    go true h = tt
+    go false h = absurd (unordered x y X (h tt) (fails l) (fails g) (fails n))
+
+-- neither less nor equal: one of the two is a NaN, and the other one is chosen
+beside : (x y : Float) (b : Bool) → lt x y ≡ false → lt y x ≡ false → eq x y ≡ false → cond (isNan x) y x ≡ chosen x y b
+beside x y b l g n = go (isNan x) (is-number x)
+  where
+    go : (c : Bool) → (T (not c) → T (number x)) → cond c y x ≡ cond c y (cond (isNan y) x (cond b y x))
+    go true h = refl
+    go false h = rw (is-true (isNan y) (second-nan x y (h tt) l g n))
+
+-- ---- the lesser and the greater
+
+and-false : (b : Bool) → b && false ≡ false
+and-false true = refl
+and-false false = refl
+
+and-true : (b : Bool) → b && true ≡ false → b ≡ false
+and-true true k = k
+and-true false k = refl
+
+pub minimum-less : (x y : Float) → lt x y ≡ true → x ≡ minimum x y
+unfolding minimum
+minimum-less x y h = first x y (countsBelow y x) (lt-number x y (holds h) .0) (below-no x y h)
+
+pub minimum-more : (x y : Float) → lt y x ≡ true → y ≡ minimum x y
+unfolding minimum
+minimum-more x y h = let n = lt-number y x (holds h) in second x y (countsBelow y x) (n .1) (n .0) (below-yes y x h)
+
+pub minimum-negative : (x y : Float) → eq x y ≡ true → negative x ≡ true → x ≡ minimum x y
+unfolding minimum
+minimum-negative x y h s = first x y (countsBelow y x) (le-number x y (eq-le x y (holds h)) .0) (below-equal y x (is-true (eq y x) (eq-symmetric x y (holds h))) ∙ rw s (and-false (negative y)))
+
+pub minimum-other : (f : Format) (x y : Float) → T (fits f x) → T (fits f y) → eq x y ≡ true → negative x ≡ false → y ≡ minimum x y
+unfolding minimum
+minimum-other f x y F G h s =
+    equal-second f x y (countsBelow y x) F G h
+    (λ n. s ∙ sym (and-true (negative y) (rw s at (sym (below-equal y x (is-true (eq y x) (eq-symmetric x y (holds h)))) ∙ n))))
+
+pub minimum-nan : (x y : Float) → lt x y ≡ false → lt y x ≡ false → eq x y ≡ false → cond (isNan x) y x ≡ minimum x y
+unfolding minimum
+minimum-nan x y l g n = beside x y (countsBelow y x) l g n
+
+pub maximum-less : (x y : Float) → lt y x ≡ true → x ≡ maximum x y
+unfolding maximum
+maximum-less x y h = first x y (countsBelow x y) (lt-number y x (holds h) .1) (below-no y x h)
+
+pub maximum-more : (x y : Float) → lt x y ≡ true → y ≡ maximum x y
+unfolding maximum
+maximum-more x y h = let n = lt-number x y (holds h) in second x y (countsBelow x y) (n .0) (n .1) (below-yes x y h)
+
+pub maximum-negative : (x y : Float) → eq x y ≡ true → negative y ≡ true → x ≡ maximum x y
+unfolding maximum
+maximum-negative x y h s = first x y (countsBelow x y) (le-number x y (eq-le x y (holds h)) .0) (below-equal x y h ∙ rw s (and-false (negative x)))
+
+pub maximum-other : (f : Format) (x y : Float) → T (fits f x) → T (fits f y) → eq x y ≡ true → negative y ≡ false → y ≡ maximum x y
+unfolding maximum
+maximum-other f x y F G h s = equal-second f x y (countsBelow x y) F G h (λ n. and-true (negative x) (rw s at (sym (below-equal x y h) ∙ n)) ∙ sym s)
+
+pub maximum-nan : (x y : Float) → lt x y ≡ false → lt y x ≡ false → eq x y ≡ false → cond (isNan x) y x ≡ maximum x y
+unfolding maximum
+maximum-nan x y l g n = beside x y (countsBelow x y) l g n
