@@ -10,3 +10,4 @@ pub mod Neighbour
 pub mod Sizes
 pub mod Picks
 pub mod Steps
+pub mod Reading

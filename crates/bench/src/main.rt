@@ -1,0 +1,11 @@
+// Document 01's bench cases: for each its name and whether the library answers what the paper says; then how many there were.
+mod leaves;
+mod tell;
+
+use libc::STDOUT_FILENO;
+
+fn main() {
+    let cases = leaves::run();
+    io::print_decimal(STDOUT_FILENO, cases);
+    io::write_all(STDOUT_FILENO, b" cases\n");
+}

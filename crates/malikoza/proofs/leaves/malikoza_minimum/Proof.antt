@@ -1,0 +1,29 @@
+use borrow.Author.Needs.{needs}
+use Rattle.malikoza.proofs.leaves.malikoza_minimum.Statement.{statement}
+use Rattle.malikoza.proofs.leaves.malikoza_minimum.Tie as tie
+
+double-of-requires : tie.Need-double-of-requires
+double-of-requires c κs = search needs
+
+double-of-requires-2 : tie.Need-double-of-requires-2
+double-of-requires-2 c κs = search needs
+
+minimum-requires : tie.Need-minimum-requires
+minimum-requires c κs = search needs
+
+pattern-of-requires : tie.Need-pattern-of-requires
+pattern-of-requires c κs = search needs
+
+returns : tie.Need-returns
+returns c =
+    simp (
+      ← c .pattern-of .ensures,
+      ← c .before .minimum .ensures,
+      ← c .before .before .double-of2 .ensures,
+      ← c .before .before .before .double-of .ensures,
+    )
+
+pub malikoza-minimum-spec : {M : Type 1} → statement M
+malikoza-minimum-spec =
+    tie.close
+    (tie.spec double-of-requires double-of-requires-2 minimum-requires pattern-of-requires returns)

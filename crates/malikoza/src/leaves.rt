@@ -1,0 +1,72 @@
+// The number leaves on patterns. They refuse nothing.
+use fused::multiply_add;
+use number::pattern::double_of;
+use number::pattern::pattern_of;
+use number::pick;
+use number::size;
+use number::step;
+use roots::hypot;
+use roots::square_root;
+ghost use mathlib.Core.Path.{_≡_};
+ghost use lib.Ieee.{binary64, ofBits, toBits};
+ghost use Rattle.number.specs.Leaves.{nextDown, minimum, maximum, absolute, wholePart};
+ghost use Rattle.roots.specs.Root.{sqrtOf};
+ghost use Rattle.roots.specs.Hypot.{hypotOf};
+ghost use Rattle.fused.specs.Fused.{fmaOf};
+
+#[no_mangle]
+pub extern "C" fn malikoza_sqrt(x: u64) -> u64
+    ensures { λ r. ⌜ r ≡ toBits binary64 (sqrtOf binary64 (ofBits binary64 x)) ⌝ }
+{
+    pattern_of(square_root::sqrt(double_of(x)))
+}
+
+#[no_mangle]
+pub extern "C" fn malikoza_fma(x: u64, y: u64, z: u64) -> u64
+    ensures { λ r. ⌜ r ≡ toBits binary64 (fmaOf binary64 (ofBits binary64 x) (ofBits binary64 y) (ofBits binary64 z)) ⌝ }
+{
+    pattern_of(multiply_add::fma(double_of(x), double_of(y), double_of(z)))
+}
+
+#[no_mangle]
+pub extern "C" fn malikoza_hypot(x: u64, y: u64) -> u64
+    ensures { λ r. ⌜ r ≡ toBits binary64 (hypotOf binary64 (ofBits binary64 x) (ofBits binary64 y)) ⌝ }
+{
+    pattern_of(hypot::hypot(double_of(x), double_of(y)))
+}
+
+#[no_mangle]
+pub extern "C" fn malikoza_next_down(x: u64) -> u64
+    ensures { λ r. ⌜ r ≡ toBits binary64 (nextDown binary64 (ofBits binary64 x)) ⌝ }
+{
+    pattern_of(step::next_down(double_of(x)))
+}
+
+#[no_mangle]
+pub extern "C" fn malikoza_minimum(x: u64, y: u64) -> u64
+    ensures { λ r. ⌜ r ≡ toBits binary64 (minimum (ofBits binary64 x) (ofBits binary64 y)) ⌝ }
+{
+    pattern_of(pick::minimum(double_of(x), double_of(y)))
+}
+
+#[no_mangle]
+pub extern "C" fn malikoza_maximum(x: u64, y: u64) -> u64
+    ensures { λ r. ⌜ r ≡ toBits binary64 (maximum (ofBits binary64 x) (ofBits binary64 y)) ⌝ }
+{
+    pattern_of(pick::maximum(double_of(x), double_of(y)))
+}
+
+#[no_mangle]
+pub extern "C" fn malikoza_absolute(x: u64) -> u64
+    ensures { λ r. ⌜ r ≡ toBits binary64 (absolute (ofBits binary64 x)) ⌝ }
+{
+    pattern_of(size::absolute(double_of(x)))
+}
+
+// The number itself, and no pattern.
+#[no_mangle]
+pub extern "C" fn malikoza_whole_part(x: u64) -> u64
+    ensures { λ r. ⌜ r ≡ wholePart (ofBits binary64 x) ⌝ }
+{
+    size::whole_part(double_of(x))
+}

@@ -1,0 +1,55 @@
+use mathlib.Core.Path.{ap, _∙_}
+use lib.Dec.{T}
+use lib.Ieee.{binary64, fits, ofBits}
+use lib.Ieee.Bits.{ofBits-toBits}
+use Rattle.number.proofs.Order.{nought, holds, fails, lt-number, not-nan}
+use Rattle.number.proofs.Steps.{down-above}
+use Rattle.number.proofs.Reading.{zero-by-zero}
+use Rattle.roots.specs.Root.{sqrtOf}
+use Rattle.roots.proofs.Sqrts.{only-infinity, below-zero, neither-side}
+use Rattle.roots.proofs.square_root.sqrt.Statement.{statement}
+use Rattle.roots.proofs.square_root.sqrt.Tie as tie
+
+-- what owning an `f64` tells: the format holds it
+held : (c : tie.Start) → T (fits binary64 (c .args .x))
+held c = holds (c .good .0 .1)
+
+float-to-bits-b : tie.Need-float-to-bits-b
+unfolding ofBits
+float-to-bits-b c = let x = c .before .args .x in not-nan x (lt-number nought x (holds (c .if1 .taken)) .1)
+
+positive-root-requires : tie.Need-positive-root-requires
+unfolding ofBits
+positive-root-requires c κs =
+    let s = c .before .before in
+    (down-above binary64 (s .args .x) (held s) (holds (c .before .if1 .taken)) .0, c .if2 .taken)
+
+returns : tie.Need-returns
+returns c =
+    let s = c .before .before .before in
+    c .positive-root .ensures ∙ ap (sqrtOf binary64) (ofBits-toBits binary64 (s .args .x) (held s))
+
+returns-2 : tie.Need-returns-2
+unfolding ofBits
+returns-2 c =
+    let s = c .before .before in
+    only-infinity binary64 (s .args .x) (held s) (holds (c .before .if1 .taken)) (c .if2 .left)
+
+returns-3 : tie.Need-returns-3
+unfolding ofBits
+returns-3 c = zero-by-zero ∙ below-zero binary64 (c .before .before .args .x) (holds (c .if3 .taken))
+
+returns-4 : tie.Need-returns-4
+unfolding ofBits
+returns-4 c = neither-side binary64 (c .before .before .args .x) (fails (c .before .if1 .left)) (fails (c .if3 .left))
+
+pub sqrt-spec : {M : Type 1} → statement M
+sqrt-spec =
+    tie.close
+    (tie.spec
+    float-to-bits-b
+    positive-root-requires
+    returns
+    returns-2
+    returns-3
+    returns-4)

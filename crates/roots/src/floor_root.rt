@@ -1,0 +1,55 @@
+// The whole part of a root, twice, and one more where the root is not whole: all that rounding has to know of it.
+ghost use mathlib.Core.Path.{_≡_};
+ghost use Prim.Native.Nat.{_+_, _*_, _^_, _<_, _≤_};
+ghost use Rattle.roots.specs.CutRoot.{stickMore};
+
+// Where Heron's rounds start: near the roots that are asked for. Any number of this range will do.
+fn guess(n: u64) -> u64
+    ensures { λ r. ⌜ (0x6000_0000 ≤ r) × (r ≤ 0xc000_0000) ⌝ }
+{
+    0x6000_0000
+}
+
+// The whole part of n's root, by Heron's rounds. From the first on they give no less than the root, and fall until they reach it.
+fn heron(n: u64) -> u64
+    requires { ⌜ n < 2 ^ 63 ⌝ }
+    ensures { λ r. ⌜ (r * r ≤ n) × (n < (r + 1) * (r + 1)) ⌝ }
+{
+    let g = guess(n);
+    let mut s = (g + n / g) / 2;
+    while n < s * s {
+        s = (s + n / s) / 2;
+    }
+    s
+}
+
+// The root of (s^2 + t) * 2^48 + l, from the root s of its upper part and what that leaves, t: 24 digits more, by one division.
+// z is not 0 where more was cut off below l.
+fn longer(s: u64, t: u64, l: u64, z: u64) -> u64
+    requires { ⌜ (2 ^ 30 ≤ s) × (s < 2 ^ 32) × (t ≤ 2 * s) × (l < 2 ^ 48) × (z < 2 ^ 62) ⌝ }
+    ensures { λ r. ⌜ r ≡ stickMore ((s * s + t) * 2 ^ 48 + l) z ⌝ }
+{
+    let t = t * 0x100_0000 + l / 0x100_0000;
+    let q = t / (2 * s);
+    let u = t % (2 * s);
+    let r = s * 0x100_0000 + q;
+    // The number and a are r^2 and b.
+    let a = q * q;
+    let b = u * 0x100_0000 + l % 0x100_0000;
+    if b < a {
+        return 2 * r - 1;
+    }
+    if a < b + z {
+        return 2 * r + 1;
+    }
+    2 * r
+}
+
+// The root of n * 2^48 + l. z is not 0 where more was cut off below l.
+pub(crate) fn root(n: u64, l: u64, z: u64) -> u64
+    requires { ⌜ (2 ^ 60 ≤ n) × (n < 2 ^ 63) × (l < 2 ^ 48) × (z < 2 ^ 62) ⌝ }
+    ensures { λ r. ⌜ r ≡ stickMore (n * 2 ^ 48 + l) z ⌝ }
+{
+    let s = heron(n);
+    longer(s, n - s * s, l, z)
+}

@@ -1,0 +1,93 @@
+// Document 01's hypot.
+ghost use mathlib.Core.Path.{_≡_};
+ghost use Prim.Native.Nat.{_+_, _*_, _/_, _%_, _^_, _<_, _≤_};
+ghost use lib.Ieee.{binary64, ofBits};
+ghost use Rattle.roots.specs.CutRoot.{stickMore};
+ghost use Rattle.roots.specs.Hypot.{hypotOf};
+use crate::floor_root;
+use limbs::wide;
+use limbs::wide::Wide;
+use number::pattern;
+use rounding::packing;
+
+// A number shifted down, and the digits that it lost.
+struct Shifted {
+    whole: Wide,
+    rest: u64,
+}
+
+// w without its s lowest digits. The upper word's go up by 64 - s, in two steps, since a shift by 64 has no meaning.
+fn cut(w: Wide, s: u64) -> Shifted
+    requires { ⌜ s < 64 ⌝ }
+    ensures { λ r. ⌜ (r .whole .hi * 2 ^ 64 + r .whole .lo ≡ (w .hi * 2 ^ 64 + w .lo) / 2 ^ s) × (r .rest ≡ w .lo % 2 ^ s) ⌝ }
+{
+    let lo = w.lo >> s;
+    Shifted {
+        whole: Wide {
+            hi: w.hi >> s,
+            lo: lo | w.hi << 1 << (63 - s),
+        },
+        rest: w.lo - (lo << s),
+    }
+}
+
+// The root of x^2 + y^2 / 2^s, as `root` gives it.
+fn sum_root(x: u64, y: u64, s: u64) -> u64
+    requires { ⌜ (2 ^ 54 ≤ x) × (x < 2 ^ 55) × (y < 2 ^ 55) × (s < 54) ⌝ }
+    ensures { λ r. ⌜ r ≡ stickMore (x * x + y * y / 2 ^ s) (y * y % 2 ^ s) ⌝ }
+{
+    let c = cut(wide::product(y, y), s);
+    let t = wide::plus(wide::product(x, x), c.whole);
+    floor_root::root(
+        (t.hi << 16) + (t.lo >> 48),
+        t.lo % 0x1_0000_0000_0000,
+        c.rest,
+    )
+}
+
+// From two finite patterns without a sign, the larger first. Where the smaller begins 27 digits lower, it adds less than half of the
+// larger's last digit.
+fn finite_length(a: u64, b: u64) -> f64
+    requires { ⌜ (b ≤ a) × (a < 0x7ff0_0000_0000_0000) ⌝ }
+    ensures { λ r. ⌜ r ≡ hypotOf binary64 (ofBits binary64 a) (ofBits binary64 b) ⌝ }
+{
+    if a == 0 {
+        return 0.0;
+    }
+    let p = packing::unpacked(a);
+    let q = packing::unpacked(b);
+    let d = p.k - q.k;
+    if d > 26 {
+        return f64::from_bits(a);
+    }
+    packing::rounded(false, sum_root(p.m * 4, q.m * 4, d * 2), p.k + 1270)
+}
+
+// From two patterns without a sign, the larger first: a NaN's is above an infinity's.
+fn ordered(a: u64, b: u64) -> f64
+    requires { ⌜ (b ≤ a) × (a < 0x8000_0000_0000_0000) ⌝ }
+    ensures { λ r. ⌜ r ≡ hypotOf binary64 (ofBits binary64 a) (ofBits binary64 b) ⌝ }
+{
+    if a < 0x7ff0_0000_0000_0000 {
+        return finite_length(a, b);
+    }
+    if a == 0x7ff0_0000_0000_0000 {
+        return f64::from_bits(0x7ff0_0000_0000_0000);
+    }
+    if b == 0x7ff0_0000_0000_0000 {
+        return f64::from_bits(0x7ff0_0000_0000_0000);
+    }
+    0.0 / 0.0
+}
+
+// "An infinite part gives plus infinity; else a NaN part gives NaN; else nearest to the root of x² + y²."
+pub fn hypot(x: f64, y: f64) -> f64
+    ensures { λ r. ⌜ r ≡ hypotOf binary64 x y ⌝ }
+{
+    let a = pattern::pattern_of(x) % 0x8000_0000_0000_0000;
+    let b = pattern::pattern_of(y) % 0x8000_0000_0000_0000;
+    if a < b {
+        return ordered(b, a);
+    }
+    ordered(a, b)
+}

@@ -1,0 +1,1 @@
+// Document 01's starred cases: one list, one proved statement. No code.
