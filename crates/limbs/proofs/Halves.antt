@@ -3,7 +3,6 @@ use mathlib.Core.Path.{_≡_, sym, ap, ap₂, _∙_}
 use Prim.Native.Nat.{ℕ, _+_, _-_, _*_, _/_, _%_, _^_, _≤_, _<_}
 use native.Mathlib.Nat.{mul-le-mul, div-add-mod', mod-add-mod, add-zero}
 use native.Mathlib.Omega.{arith}
-use lib.Arith.{digits-div, digits-mod}
 
 half-lt : (x : ℕ) → x < 2 ^ 64 → (x / 2 ^ 32 ≤ 2 ^ 32 - 1) × (x % 2 ^ 32 ≤ 2 ^ 32 - 1)
 half-lt x h = (omega arith, omega arith)
@@ -39,27 +38,25 @@ module _ (a b : ℕ) (A : a < 2 ^ 64) (B : b < 2 ^ 64) where
         high-le = mul-le-mul (x .0) (y .0);
       }
 
-  abbrev rest : ℕ
-  rest = two * 2 ^ 32 % 2 ^ 64 + low % 2 ^ 32
-
-  rest-lt : rest < 2 ^ 64
-  rest-lt = omega arith
-
-  joined : high * 2 ^ 64 + rest ≡ a * b
-  joined = go (a / 2 ^ 32) (a % 2 ^ 32) (b / 2 ^ 32) (b % 2 ^ 32) (div-add-mod' a (2 ^ 32)) (div-add-mod' b (2 ^ 32))
+  -- the product by its halves: p * 2 ^ 64 + (q + r) * 2 ^ 32 + l
+  halved : a / 2 ^ 32 * (b / 2 ^ 32) * 2 ^ 64 + (a / 2 ^ 32 * (b % 2 ^ 32) + a % 2 ^ 32 * (b / 2 ^ 32)) * 2 ^ 32 + a % 2 ^ 32 * (b % 2 ^ 32) ≡ a * b
+  halved = go (a / 2 ^ 32) (a % 2 ^ 32) (b / 2 ^ 32) (b % 2 ^ 32) (div-add-mod' a (2 ^ 32)) (div-add-mod' b (2 ^ 32))
     where
-      carry : (p q r l : ℕ) → (p + (q + l / 2 ^ 32) / 2 ^ 32 + (r + (q + l / 2 ^ 32) % 2 ^ 32) / 2 ^ 32) * 2 ^ 64 + ((r + (q + l / 2 ^ 32) % 2 ^ 32) * 2 ^ 32 % 2 ^ 64 + l % 2 ^ 32) ≡ p * 2 ^ 64 + (q + r) * 2 ^ 32 + l
-      carry p q r l = omega arith
-
-      go : (w x y z : ℕ) → w * 2 ^ 32 + x ≡ a → y * 2 ^ 32 + z ≡ b
-          → (w * y + (w * z + x * z / 2 ^ 32) / 2 ^ 32 + (x * y + (w * z + x * z / 2 ^ 32) % 2 ^ 32) / 2 ^ 32) * 2 ^ 64 + ((x * y + (w * z + x * z / 2 ^ 32) % 2 ^ 32) * 2 ^ 32 % 2 ^ 64 + x * z % 2 ^ 32) ≡ a * b
-      go w x y z h k = carry (w * y) (w * z) (x * y) (x * z) ∙ omega (arith, ap₂ (λ (i j : ℕ). i * j) h k)
+      go : (w x y z : ℕ) → w * 2 ^ 32 + x ≡ a → y * 2 ^ 32 + z ≡ b → w * y * 2 ^ 64 + (w * z + x * y) * 2 ^ 32 + x * z ≡ a * b
+      go w x y z h k = omega (arith, ap₂ (λ (i j : ℕ). i * j) h k)
 
   pub high-is : high ≡ a * b / 2 ^ 64
-  high-is = sym (ap (λ (x : ℕ). x / 2 ^ 64) (sym joined) ∙ digits-div high rest-lt)
+  high-is = carry (a / 2 ^ 32 * (b / 2 ^ 32)) (a / 2 ^ 32 * (b % 2 ^ 32)) (a % 2 ^ 32 * (b / 2 ^ 32)) low ∙ ap (λ (x : ℕ). x / 2 ^ 64) halved
+    where
+      carry : (p q r l : ℕ) → p + (q + l / 2 ^ 32) / 2 ^ 32 + (r + (q + l / 2 ^ 32) % 2 ^ 32) / 2 ^ 32 ≡ (p * 2 ^ 64 + (q + r) * 2 ^ 32 + l) / 2 ^ 64
+      carry p q r l = omega arith
 
-  pub rest-is : rest ≡ a * b % 2 ^ 64
-  rest-is = sym (ap (λ (x : ℕ). x % 2 ^ 64) (sym joined) ∙ digits-mod high rest-lt)
+  -- the low word, from sums that wrap
+  pub low-is : (middle lo : ℕ) → middle ≡ (a / 2 ^ 32 * (b % 2 ^ 32) + a % 2 ^ 32 * (b / 2 ^ 32)) % 2 ^ 64 → lo ≡ (middle * 2 ^ 32 % 2 ^ 64 + low) % 2 ^ 64 → lo ≡ a * b % 2 ^ 64
+  low-is middle lo m e = e ∙ ap (λ (x : ℕ). (x * 2 ^ 32 % 2 ^ 64 + low) % 2 ^ 64) m ∙ wrap (a / 2 ^ 32 * (b / 2 ^ 32)) (a / 2 ^ 32 * (b % 2 ^ 32) + a % 2 ^ 32 * (b / 2 ^ 32)) low ∙ ap (λ (x : ℕ). x % 2 ^ 64) halved
+    where
+      wrap : (p q l : ℕ) → (q % 2 ^ 64 * 2 ^ 32 % 2 ^ 64 + l) % 2 ^ 64 ≡ (p * 2 ^ 64 + q * 2 ^ 32 + l) % 2 ^ 64
+      wrap p q l = omega arith
 
   -- the sums of the code stay in a word
   pub sums-fit : (one < 2 ^ 64) × (two < 2 ^ 64) × (a / 2 ^ 32 * (b / 2 ^ 32) + one / 2 ^ 32 < 2 ^ 64) × (high < 2 ^ 64)

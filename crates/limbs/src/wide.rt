@@ -7,7 +7,8 @@ pub struct Wide {
     pub lo: u64,
 }
 
-// The exact product of two words, from their 32-bit halves. Each sum takes one carry at a time, so that it fits in a word.
+// The exact product of two words, from their 32-bit halves. Each sum of the high word takes one carry at a time, so that it fits in a word; the
+// sums of the low word wrap. Compilers know both patterns: on a machine that multiplies words the whole is one instruction.
 pub fn product(a: u64, b: u64) -> Wide
     ensures { λ r. ⌜ (r .hi ≡ a * b / 2 ^ 64) × (r .lo ≡ a * b % 2 ^ 64) ⌝ }
 {
@@ -16,11 +17,14 @@ pub fn product(a: u64, b: u64) -> Wide
     let b1 = b >> 32;
     let b0 = b % 0x1_0000_0000;
     let low = a0 * b0;
-    let one = a1 * b0 + (low >> 32);
-    let two = a0 * b1 + one % 0x1_0000_0000;
+    let left = a1 * b0;
+    let right = a0 * b1;
+    let one = left + (low >> 32);
+    let two = right + one % 0x1_0000_0000;
+    let middle = std::num::wrapping_add_u64(left, right);
     Wide {
         hi: a1 * b1 + (one >> 32) + (two >> 32),
-        lo: (two << 32) + low % 0x1_0000_0000,
+        lo: std::num::wrapping_add_u64(middle << 32, low),
     }
 }
 

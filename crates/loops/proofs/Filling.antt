@@ -1,10 +1,10 @@
 -- One more turn of a loop that fills lent memory from the front.
 use mathlib.Core.Path.{_≡_, refl, sym, _∙_}
-use mathlib.Core.List.{List, [], _∷_, _++_}
+use mathlib.Core.List.{List, [], _∷_, _++_, append-nil}
 use Prim.Native.Nat.{ℕ, zero, suc, _+_, _<_, _≤_}
 use native.Mathlib.Numerals.{add-one}
 use native.Mathlib.Omega.{arith}
-use lib.ListN.{length, getD, set, drop, length-append, length-drop, length-set}
+use lib.ListN.{length, getD, set, drop, length-append, length-drop, length-set, drop-of-length-le}
 use lib.Seq.{drop-cons, set-at, append-snoc, drop-set-lt, set-set}
 use Rattle.loops.specs.Upto.{table, filled}
 
@@ -39,3 +39,8 @@ fill-first f old v h e =
 pub length-filled : {A : Type 0} (f : ℕ → A) (n : ℕ) (old : List A) → n ≤ length old → length (filled f n old) ≡ length old
 unfolding filled
 length-filled f n old h = simp (length-append, length-table, length-drop) (omega arith)
+
+-- a list that is filled to its end
+pub fill-all : {A : Type 0} (f : ℕ → A) (n : ℕ) (old : List A) → length old ≤ n → filled f n old ≡ table f n
+unfolding filled
+fill-all f n old h = rw (drop-of-length-le old h) (append-nil (table f n))

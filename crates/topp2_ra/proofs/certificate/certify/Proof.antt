@@ -1,0 +1,25 @@
+use mathlib.Core.Path.{sym, _∙_}
+use Rattle.loops.specs.Rows.{rowsOf}
+use Rattle.topp2_ra.proofs.Counting.{code-between, code-outside}
+use borrow.Author.Needs.{needs}
+use Rattle.topp2_ra.proofs.certificate.certify.Statement.{statement}
+use Rattle.topp2_ra.proofs.certificate.certify.Tie as tie
+
+is-between-requires : tie.Need-is-between-requires
+is-between-requires c κs = search needs
+
+certify-rows-requires : tie.Need-certify-rows-requires
+certify-rows-requires c κs = search needs
+
+returns : tie.Need-returns
+returns c =
+    let a = c .before .before .before .before .args in
+    c .certify-rows .ensures ∙ code-between (a .q) (a .x) (rowsOf (a .rows .now)) (sym (c .before .before .is-between .ensures) ∙ c .before .if1 .taken)
+
+returns-2 : tie.Need-returns-2
+returns-2 c =
+    let a = c .before .before .before .args in
+    code-outside (a .q) (a .x) (rowsOf (a .rows .now)) (sym (c .before .is-between .ensures) ∙ c .if1 .left)
+
+pub certify-spec : {M : Type 1} → statement M
+certify-spec = tie.close (tie.spec is-between-requires certify-rows-requires returns returns-2)
