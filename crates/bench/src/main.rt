@@ -1,11 +1,12 @@
 // Document 01's bench cases: for each its name and whether the library answers what the paper says; then how many there were.
 mod leaves;
+mod recovery;
 mod tell;
 
 use libc::STDOUT_FILENO;
 
 fn main() {
-    let cases = leaves::run();
+    let cases = leaves::run() + recovery::run();
     io::print_decimal(STDOUT_FILENO, cases);
     io::write_all(STDOUT_FILENO, b" cases\n");
 }

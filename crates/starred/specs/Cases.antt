@@ -6,20 +6,43 @@ use lib.Ieee.{Float, binary64, ofBits, toBits}
 use Rattle.roots.specs.Root.{sqrtOf}
 use Rattle.roots.specs.Hypot.{hypotOf}
 use Rattle.fused.specs.Fused.{fmaOf}
+use Rattle.topp2_ra.specs.Recovery.{recovered}
+use Rattle.topp2_ra.specs.declared.request.Request.{Request}
+use Rattle.topp2_ra.specs.declared.request.Answer.{Answer}
+use Rattle.topp2_ra.specs.declared.request.Answer.the-variants.{Certified, Refused}
 
 -- what is asked, and what the answer is
 pub data Case : Type 0 where
   root : ℕ → ℕ → Case
   length : ℕ → ℕ → ℕ → Case
   fusion : ℕ → ℕ → ℕ → ℕ → Case
+  recovery : ℕ → List ℕ → Answer → Case
 
 abbrev double : ℕ → Float
 double n = ofBits binary64 n
+
+abbrev doubles : List ℕ → List Float
+doubles [] = []
+doubles (n ∷ ns) = double n ∷ doubles ns
+
+-- "tolerances 0 unless given: a_prev 1, previous [0, 4] cap 9, current [0, 4] cap 3"
+abbrev usual : Float → Request
+usual tol = record {
+  «a_prev» = double 0x3ff0_0000_0000_0000;
+  «prev_backward» = record { lower = double 0; upper = double 0x4010_0000_0000_0000 };
+  «curr_backward» = record { lower = double 0; upper = double 0x4010_0000_0000_0000 };
+  «prev_path_max» = double 0x4022_0000_0000_0000;
+  «curr_path_max» = double 0x4008_0000_0000_0000;
+  «feas_tol» = tol;
+  «a_cmp_abs_tol» = double 0;
+  «a_cmp_rel_tol» = double 0;
+}
 
 abbrev pub Holds : Case → Type 0
 Holds (root x r) = toBits binary64 (sqrtOf binary64 (double x)) ≡ r
 Holds (length x y r) = toBits binary64 (hypotOf binary64 (double x) (double y)) ≡ r
 Holds (fusion x y z r) = toBits binary64 (fmaOf binary64 (double x) (double y) (double z)) ≡ r
+Holds (recovery tol rows a) = recovered (usual (double tol)) (doubles rows) ≡ a
 
 abbrev pub AllHold : List Case → Type 0
 AllHold [] = Unit
@@ -35,4 +58,13 @@ starred =
     ∷ length 1 1 1
     -- fma(1 + 2^-52, 1 - 2^-52, -1) = -2^-104; rounded twice it would be 0
     ∷ fusion 0x3ff0_0000_0000_0001 0x3fef_ffff_ffff_fffe 0xbff0_0000_0000_0000 0xb970_0000_0000_0000
+    -- no rows: 3, worst 0 and 0, tried 1
+    ∷ recovery 0 [] (Certified (double 0x4008_0000_0000_0000) (double 0) (double 0) 1)
+    -- row (1, 0, 2), feas_tol 0: 2, 0, 0, tried 2
+    ∷ recovery 0 (0x3ff0_0000_0000_0000 ∷ 0 ∷ 0x4000_0000_0000_0000 ∷ []) (Certified (double 0x4000_0000_0000_0000) (double 0) (double 0) 2)
+    -- row (2, 0, 4), feas_tol 0.25: 2.25, 0.25, 0.5, tried 2
+    ∷ recovery 0x3fd0_0000_0000_0000 (0x4000_0000_0000_0000 ∷ 0 ∷ 0x4010_0000_0000_0000 ∷ [])
+    (Certified (double 0x4002_0000_0000_0000) (double 0x3fd0_0000_0000_0000) (double 0x3fe0_0000_0000_0000) 2)
+    -- row (0, 0, -1): 6
+    ∷ recovery 0 (0 ∷ 0 ∷ 0xbff0_0000_0000_0000 ∷ []) (Refused 6)
     ∷ []

@@ -1,0 +1,297 @@
+// Recovery: document 01's cases, then one for each refusal number and for each way an answer is found.
+use crate::tell::tell;
+use number::pattern::pattern_of;
+use topp2_ra::recovery::recover_forward_intersection;
+use topp2_ra::request::Answer;
+use topp2_ra::request::Interval;
+use topp2_ra::request::Request;
+ghost use mathlib.Core.Path.{_≡_};
+
+// a_prev, previous [0, 4] cap 9, current [lower, upper] with its cap; comparison tolerances 0.
+fn request(a_prev: f64, lower: f64, upper: f64, cap: f64, feas_tol: f64) -> Request {
+    Request {
+        a_prev,
+        prev_backward: Interval {
+            lower: 0.0,
+            upper: 4.0,
+        },
+        curr_backward: Interval { lower, upper },
+        prev_path_max: 9.0,
+        curr_path_max: cap,
+        feas_tol,
+        a_cmp_abs_tol: 0.0,
+        a_cmp_rel_tol: 0.0,
+    }
+}
+
+// 01's: a_prev 1, current [0, 4] cap 3.
+fn usual(feas_tol: f64) -> Request {
+    request(1.0, 0.0, 4.0, 3.0, feas_tol)
+}
+
+fn certified(a: Answer, x: f64, n: f64, r: f64, t: u64) -> bool {
+    match a {
+        Answer::Certified {
+            speed,
+            worst_normalized,
+            worst_raw,
+            tried,
+        } => {
+            if pattern_of(speed) == pattern_of(x) {
+                if pattern_of(worst_normalized) == pattern_of(n) {
+                    if pattern_of(worst_raw) == pattern_of(r) {
+                        return tried == t;
+                    }
+                }
+            }
+            false
+        }
+        Answer::Refused(_) => false,
+    }
+}
+
+fn refused(a: Answer, number: u64) -> bool {
+    match a {
+        Answer::Certified {
+            speed: _,
+            worst_normalized: _,
+            worst_raw: _,
+            tried: _,
+        } => false,
+        Answer::Refused(k) => k == number,
+    }
+}
+
+// One row, under the usual request.
+fn row_gives(
+    coef_curr: f64,
+    coef_prev: f64,
+    rhs: f64,
+    tol: f64,
+    x: f64,
+    n: f64,
+    r: f64,
+    t: u64,
+) -> bool {
+    certified(
+        recover_forward_intersection(usual(tol), &[coef_curr, coef_prev, rhs]),
+        x,
+        n,
+        r,
+        t,
+    )
+}
+
+fn row_refused(coef_curr: f64, coef_prev: f64, rhs: f64, number: u64) -> bool {
+    refused(
+        recover_forward_intersection(usual(0.0), &[coef_curr, coef_prev, rhs]),
+        number,
+    )
+}
+
+// No rows.
+fn cap_given(lower: f64, upper: f64, cap: f64, x: f64) -> bool {
+    certified(
+        recover_forward_intersection(request(1.0, lower, upper, cap, 0.0), &[]),
+        x,
+        0.0,
+        0.0,
+        1,
+    )
+}
+
+fn record_refused(a_prev: f64, lower: f64, upper: f64, cap: f64, tol: f64, number: u64) -> bool {
+    refused(
+        recover_forward_intersection(request(a_prev, lower, upper, cap, tol), &[]),
+        number,
+    )
+}
+
+fn most_rows() -> bool {
+    let rows = [0.0; 768];
+    certified(
+        recover_forward_intersection(usual(0.0), &rows),
+        3.0,
+        0.0,
+        0.0,
+        1,
+    )
+}
+
+fn too_many_rows() -> bool {
+    let rows = [0.0; 771];
+    refused(recover_forward_intersection(usual(0.0), &rows), 1)
+}
+
+fn part_of_a_row() -> bool {
+    refused(
+        recover_forward_intersection(usual(0.0), &[1.0, 0.0, 2.0, 1.0]),
+        1,
+    )
+}
+
+// 5 comes before 6, whatever the order of the rows.
+fn five_before_six() -> bool {
+    let infinity = 1.0 / 0.0;
+    refused(
+        recover_forward_intersection(usual(0.0), &[0.0, 0.0, -1.0, infinity, 0.0, 1.0]),
+        5,
+    )
+}
+
+fn middle_fails() -> bool {
+    refused(
+        recover_forward_intersection(
+            request(1.0, 1.000000001, 1.000000001, 3.0, 1.0e-9),
+            &[1.0, 0.0, 1.0],
+        ),
+        9,
+    )
+}
+
+// The lower end is such that no midpoint above the middle passes.
+fn middle_stays() -> bool {
+    certified(
+        recover_forward_intersection(
+            request(1.0, 9.999638696240602e-13, 4.0, 3.0, 1.0e-12),
+            &[1.0, 1.0, 1.0],
+        ),
+        9.999778782798783e-13,
+        7.071010443837622e-13,
+        9.99866855977416e-13,
+        43,
+    )
+}
+
+// 01's own, in its order.
+fn paper() -> u64
+    ensures { λ r. ⌜ r ≡ 6 ⌝ }
+{
+    tell(b"rc1", cap_given(0.0, 4.0, 3.0, 3.0))
+        + tell(b"rc2", row_gives(1.0, 0.0, 2.0, 0.0, 2.0, 0.0, 0.0, 2))
+        + tell(b"rc3", row_gives(2.0, 0.0, 4.0, 0.25, 2.25, 0.25, 0.5, 2))
+        + tell(b"rc4", row_refused(0.0, 0.0, -1.0, 6))
+        + tell(b"rc5", row_gives(0.0, 0.0, 0.0, 0.0, 3.0, 0.0, 0.0, 1))
+        + tell(b"rc6", row_refused(-1.0, 0.0, -5.0, 8))
+}
+
+fn paper_limits() -> u64
+    ensures { λ r. ⌜ r ≡ 4 ⌝ }
+{
+    tell(b"rc7", most_rows())
+        + tell(b"rc8", too_many_rows())
+        + tell(b"rc9", cap_given(2.0, 2.0, 3.0, 2.0))
+        + tell(b"rc10", record_refused(1.0, 2.0, 2.0, 1.5, 0.0, 4))
+}
+
+// The refusals that the paper's own cases do not show.
+fn refusals() -> u64
+    ensures { λ r. ⌜ r ≡ 8 ⌝ }
+{
+    let infinity = 1.0 / 0.0;
+    tell(b"rn1", part_of_a_row())
+        + tell(b"rn2", record_refused(1.0, 0.0, 4.0, 3.0, -1.0, 2))
+        + tell(b"rn3", record_refused(5.0, 0.0, 4.0, 3.0, 0.0, 3))
+        + tell(b"rn5a", row_refused(infinity, 0.0, 1.0, 5))
+        + tell(b"rn5b", row_refused(1.0e-310, 0.0, 1.0, 5))
+        + tell(b"rn5c", five_before_six())
+        + tell(b"rn7", row_refused(1.0e-300, 0.0, 1.0e300, 7))
+        + tell(b"rn9", middle_fails())
+}
+
+// The projected end and its neighbours, at each depth.
+fn neighbours() -> u64
+    ensures { λ r. ⌜ r ≡ 5 ⌝ }
+{
+    tell(
+        b"rw0",
+        row_gives(
+            7.0,
+            0.0,
+            1.0,
+            1.0e-9,
+            0.142857143,
+            1.4285714278194916e-10,
+            9.99999860695766e-10,
+            2,
+        ),
+    )
+        + tell(
+            b"rw1",
+            row_gives(
+                1.0,
+                0.0,
+                1.0,
+                1.0e-9,
+                1.0000000009999999,
+                9.99999860695766e-10,
+                9.99999860695766e-10,
+                3,
+            ),
+        )
+        + tell(
+            b"rw2",
+            row_gives(
+                3.0,
+                1.0,
+                2.0,
+                1.0e-12,
+                0.33333333333399995,
+                6.323830348264892e-13,
+                1.999733711954832e-12,
+                4,
+            ),
+        )
+        + tell(
+            b"rw3",
+            row_gives(
+                1.1408494154437974,
+                1.0,
+                2.0,
+                1.0e-12,
+                0.8765398714890964,
+                9.99951798685047e-13,
+                1.5170087408478139e-12,
+                5,
+            ),
+        )
+        + tell(
+            b"rw4",
+            row_gives(
+                1.0,
+                1.6010613105879532,
+                2.0,
+                1.0e-9,
+                0.3989386912997431,
+                9.999999585542977e-10,
+                1.887696221558599e-9,
+                6,
+            ),
+        )
+}
+
+// A speed between the middle and the end; and the middle.
+fn halvings() -> u64
+    ensures { λ r. ⌜ r ≡ 2 ⌝ }
+{
+    tell(
+        b"rw5",
+        row_gives(
+            1.0,
+            1.0,
+            1.0,
+            1.0e-12,
+            9.999778782798783e-13,
+            7.071010443837622e-13,
+            9.99866855977416e-13,
+            58,
+        ),
+    )
+        + tell(b"rw6", middle_stays())
+}
+
+pub(crate) fn run() -> u64
+    ensures { λ r. ⌜ r ≡ 25 ⌝ }
+{
+    paper() + paper_limits() + refusals() + neighbours() + halvings()
+}
