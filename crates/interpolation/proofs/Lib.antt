@@ -1,0 +1,6 @@
+pub mod Outcomes
+pub mod Fronts
+pub mod Profiles
+pub mod Timing
+pub mod Walks
+pub mod Samplings

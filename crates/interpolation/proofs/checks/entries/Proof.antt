@@ -1,0 +1,45 @@
+-- `interpolation::checks::entries` meets its contract. Assumes nothing.
+use borrow.Author.Needs.{needs}
+use Rattle.interpolation.proofs.checks.entries.Statement.{statement}
+use Rattle.interpolation.proofs.checks.entries.Tie as tie
+
+every-pair-requires : tie.Need-every-pair-requires
+every-pair-requires c κs = search needs
+
+unless-requires : tie.Need-unless-requires
+unless-requires c κs = search needs
+
+every-entry-requires : tie.Need-every-entry-requires
+every-entry-requires c κs = search needs
+
+unless-requires-2 : tie.Need-unless-requires-2
+unless-requires-2 c κs = search needs
+
+or-requires : tie.Need-or-requires
+or-requires c κs = search needs
+
+every-entry-requires-2 : tie.Need-every-entry-requires-2
+every-entry-requires-2 c κs = search needs
+
+unless-requires-3 : tie.Need-unless-requires-3
+unless-requires-3 c κs = search needs
+
+or-requires-2 : tie.Need-or-requires-2
+or-requires-2 c κs = search needs
+
+returns : tie.Need-returns
+returns c = cc
+
+pub entries-spec : {M : Type 1} → statement M
+entries-spec =
+    tie.close
+    (tie.spec
+    every-pair-requires
+    unless-requires
+    every-entry-requires
+    unless-requires-2
+    or-requires
+    every-entry-requires-2
+    unless-requires-3
+    or-requires-2
+    returns)

@@ -1,0 +1,16 @@
+-- `interpolation::samples::is_before` meets its contract. Assumes nothing.
+use mathlib.Core.Path.{refl}
+use borrow.Author.Needs.{needs}
+use Rattle.interpolation.specs.Samples.{isBefore}
+use Rattle.interpolation.proofs.samples.is_before.Statement.{statement}
+use Rattle.interpolation.proofs.samples.is_before.Tie as tie
+
+shared-slice-read-result : tie.Need-shared-slice-read-result
+shared-slice-read-result c = search needs
+
+returns : tie.Need-returns
+unfolding isBefore
+returns c = refl
+
+pub is-before-spec : {M : Type 1} → statement M
+is-before-spec = tie.close (tie.spec shared-slice-read-result returns)

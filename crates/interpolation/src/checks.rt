@@ -1,0 +1,113 @@
+// The checks of a profile, 11 to 15, 17 and 18, and what they are made of. Lengths come first, so that no list over its limit is walked.
+use number::size;
+ghost use mathlib.Core.Path.{_≡_};
+ghost use lib.Ieee.{lt};
+ghost use lib.Ieee.Scale.{finite};
+ghost use Rattle.loops.specs.Refusals.{unless, _or_};
+ghost use Rattle.interpolation.specs.Profile.{everyEntry, everyPair, profileNo, speedNo};
+ghost use Rattle.interpolation.specs.Parts.{entryTest, pairTest};
+
+// What is asked of each entry of a list ..
+pub(crate) enum Entry {
+    Finite,
+    NotBelowZero,
+}
+
+// .. and of each entry with the next.
+pub(crate) enum Pair {
+    Rising,
+    NotBothZero,
+}
+
+fn entry_passes(test: Entry, x: f64) -> bool
+    ensures { λ r. ⌜ r ≡ entryTest test x ⌝ }
+{
+    match test {
+        Entry::Finite => size::finite(x),
+        Entry::NotBelowZero => !(x < 0.0),
+    }
+}
+
+fn pair_passes(test: Pair, x: f64, y: f64) -> bool
+    ensures { λ r. ⌜ r ≡ pairTest test x y ⌝ }
+{
+    match test {
+        Pair::Rising => x < y,
+        Pair::NotBothZero => if x == 0.0 { !(y == 0.0) } else { true },
+    }
+}
+
+pub(crate) fn every_entry(test: Entry, x: &[f64]) -> bool
+    ensures { λ r. ⌜ r ≡ everyEntry (entryTest test) (now (x .entry)) ⌝ }
+{
+    let mut i = 0;
+    while i < x.len() {
+        if entry_passes(test, x[i]) {
+            i += 1;
+        } else {
+            return false;
+        }
+    }
+    true
+}
+
+pub(crate) fn every_pair(test: Pair, x: &[f64]) -> bool
+    ensures { λ r. ⌜ r ≡ everyPair (pairTest test) (now (x .entry)) ⌝ }
+{
+    let mut i = 0;
+    while i + 1 < x.len() {
+        if pair_passes(test, x[i], x[i + 1]) {
+            i += 1;
+        } else {
+            return false;
+        }
+    }
+    true
+}
+
+// A refusal: 0 where the test passes.
+pub(crate) fn unless(ok: bool, number: u64) -> u64
+    ensures { λ r. ⌜ r ≡ unless ok number ⌝ }
+{
+    if ok { 0 } else { number }
+}
+
+// The first of two refusals.
+pub(crate) fn or(number: u64, later: u64) -> u64
+    ensures { λ r. ⌜ r ≡ number or later ⌝ }
+{
+    if number == 0 { later } else { number }
+}
+
+// 13 to 15
+fn entries(s: &[f64], a: &[f64]) -> u64
+    ensures { λ r. ⌜ r ≡ unless (everyEntry finite (now (s .entry))) 13 or unless (everyEntry finite (now (a .entry))) 14 or unless (everyPair lt (now (s .entry))) 15 ⌝ }
+{
+    let falls = unless(every_pair(Pair::Rising, s), 15);
+    let open = or(unless(every_entry(Entry::Finite, a), 14), falls);
+    or(unless(every_entry(Entry::Finite, s), 13), open)
+}
+
+// 11 to 15
+pub(crate) fn check_topp2_sa(s: &[f64], a: &[f64]) -> u64
+    ensures { λ r. ⌜ r ≡ profileNo (now (s .entry)) (now (a .entry)) ⌝ }
+{
+    if s.len() < 2 {
+        return 11;
+    }
+    if 4096 < s.len() {
+        return 11;
+    }
+    if a.len() == s.len() {
+        return entries(s, a);
+    }
+    12
+}
+
+// 17 and 18
+pub(crate) fn check_topp2_time_denominator(a: &[f64]) -> u64
+    ensures { λ r. ⌜ r ≡ speedNo (now (a .entry)) ⌝ }
+{
+    let stands = unless(every_pair(Pair::NotBothZero, a), 18);
+    or(unless(every_entry(Entry::NotBelowZero, a), 17), stands)
+}
