@@ -2,11 +2,12 @@
 mod leaves;
 mod recovery;
 mod tell;
+mod timing;
 
 use libc::STDOUT_FILENO;
 
 fn main() {
-    let cases = leaves::run() + recovery::run();
+    let cases = leaves::run() + recovery::run() + timing::run();
     io::print_decimal(STDOUT_FILENO, cases);
     io::write_all(STDOUT_FILENO, b" cases\n");
 }
