@@ -1,6 +1,6 @@
 -- Every starred case holds, by computing the definitions.
 use mathlib.Core.Path.{refl}
-use lib.Ieee.{round, add, sub, mul, div, lt, le, eq, isNan, ofBits, toBits}
+use lib.Ieee.{round, add, sub, mul, div, lt, le, eq, isNan, ofInt, toUnsigned, ofBits, toBits}
 use Rattle.number.specs.Leaves.{negative, countsBelow, minimum, maximum, absolute, nextDown}
 use Rattle.loops.specs.Rows.{rowsOf, fold, any, all}
 use Rattle.roots.specs.Root.{rootIn, isqrt, stickRoot, rootNearest, sqrtOf}
@@ -10,10 +10,18 @@ use Rattle.topp2_ra.specs.Tolerant.{approxOrder}
 use Rattle.topp2_ra.specs.Bounds.{insidePrevious}
 use Rattle.topp2_ra.specs.Row.{numbersFinite, allWithin, admits}
 use Rattle.topp2_ra.specs.Certificate.{between, passes, worseNormalized, worseRaw, certificate}
-use Rattle.topp2_ra.specs.Search.{reach, slope, narrowed, unreachable, flat, neighbours, tryNeighbours, searched}
+use Rattle.topp2_ra.specs.Search.{reach, slope as incline, narrowed, unreachable, flat, neighbours, tryNeighbours, searched}
 use Rattle.topp2_ra.specs.Recovery.{wholeRows, tolerance, noneNan, inputsGood, previousGood, currentGood, unfit, unmeetable, afterCap, withRows, recovered}
+use Rattle.loops.specs.Upto.{every, count, seek, first, table, filled}
+use Rattle.interpolation.specs.Profile.{everyEntry, everyPair, notBelowZero, notBothZero, profileNo, speedNo}
+use Rattle.interpolation.specs.Slopes.{slope, slopesNo}
+use Rattle.interpolation.specs.Times.{leg, legTime, timeAt, timesFinite, startNo, timesNo}
+use Rattle.interpolation.specs.Samples.{intervalOf, inverse2order, c1At, stationIn, isBefore, isInside, isPast, stationAt, countsOf, timedNo}
+use Rattle.interpolation.specs.List.{samplesNo, listNo}
+use Rattle.interpolation.specs.Grid.{lastOf, gridSize, gridTime, finalAdded, evenNo, gridNo, gridStation, gridEntry, gridEntries}
 use Rattle.starred.specs.Cases.{AllHold, starred}
 
 pub starred-hold : AllHold starred
-unfolding round add sub mul div lt le eq isNan ofBits toBits negative countsBelow minimum maximum absolute nextDown rowsOf fold any all rootIn isqrt stickRoot rootNearest sqrtOf hypotOf infPlus fmaOf approxOrder insidePrevious numbersFinite allWithin admits between passes worseNormalized worseRaw certificate reach slope narrowed unreachable flat neighbours tryNeighbours searched wholeRows tolerance noneNan inputsGood previousGood currentGood unfit unmeetable afterCap withRows recovered
-starred-hold = (refl, (refl, (refl, (refl, (refl, (refl, (refl, (refl, (refl, tt)))))))))
+unfolding round add sub mul div lt le eq isNan ofBits toBits negative countsBelow minimum maximum absolute nextDown rowsOf fold any all rootIn isqrt stickRoot rootNearest sqrtOf hypotOf infPlus fmaOf approxOrder insidePrevious numbersFinite allWithin admits between passes worseNormalized worseRaw certificate reach incline narrowed unreachable flat neighbours tryNeighbours searched wholeRows tolerance noneNan inputsGood previousGood currentGood unfit unmeetable afterCap withRows recovered every count seek first table filled everyEntry everyPair notBelowZero notBothZero profileNo speedNo slope slopesNo leg legTime timeAt timesFinite startNo timesNo intervalOf inverse2order c1At stationIn isBefore isInside isPast stationAt countsOf timedNo samplesNo listNo lastOf gridSize gridTime finalAdded evenNo gridNo gridStation gridEntry gridEntries ofInt toUnsigned
+starred-hold =
+    (refl, (refl, (refl, (refl, (refl, (refl, (refl, (refl, (refl, (record { answer = refl; left = refl }, (record { answer = refl; left = refl }, (record { answer = refl; left = refl }, (record { answer = refl; left = refl }, tt)))))))))))))

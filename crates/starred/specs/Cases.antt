@@ -1,5 +1,6 @@
 -- The starred cases of document 01, in its order. A double is written as its pattern.
 use mathlib.Core.Path.{_≡_}
+use mathlib.Core.Bool.{true}
 use mathlib.Core.List.{List, [], _∷_}
 use Prim.Native.Nat.{ℕ}
 use lib.Ieee.{Float, binary64, ofBits, toBits}
@@ -10,6 +11,15 @@ use Rattle.topp2_ra.specs.Recovery.{recovered}
 use Rattle.topp2_ra.specs.declared.request.Request.{Request}
 use Rattle.topp2_ra.specs.declared.request.Answer.{Answer}
 use Rattle.topp2_ra.specs.declared.request.Answer.the-variants.{Certified, Refused}
+use Rattle.interpolation.specs.Slopes.{Slopes}
+use Rattle.interpolation.specs.Times.{Times}
+use Rattle.interpolation.specs.List.{Listed}
+use Rattle.interpolation.specs.Grid.{Gridded}
+use Rattle.interpolation.specs.declared.times.Timed.{Timed}
+use Rattle.interpolation.specs.declared.times.Timed.the-variants.{Done as Timed·Done}
+use Rattle.interpolation.specs.declared.slopes.Sloped.the-variants.{Done as Sloped·Done}
+use Rattle.interpolation.specs.declared.samples.Counts.{Counts}
+use Rattle.interpolation.specs.declared.samples.Sampled.the-variants.{Done as Sampled·Done}
 
 -- what is asked, and what the answer is
 pub data Case : Type 0 where
@@ -17,6 +27,11 @@ pub data Case : Type 0 where
   length : ℕ → ℕ → ℕ → Case
   fusion : ℕ → ℕ → ℕ → ℕ → Case
   recovery : ℕ → List ℕ → Answer → Case
+  -- stations, squared speeds, (times,) what is asked; the answer, and the output, which held zeros
+  times : List ℕ → List ℕ → ℕ → Timed → List ℕ → Case
+  slopes : List ℕ → List ℕ → List ℕ → Case
+  samples : List ℕ → List ℕ → List ℕ → List ℕ → Counts → List ℕ → Case
+  grid : List ℕ → List ℕ → List ℕ → ℕ → ℕ → Counts → List ℕ → Case
 
 abbrev double : ℕ → Float
 double n = ofBits binary64 n
@@ -24,6 +39,13 @@ double n = ofBits binary64 n
 abbrev doubles : List ℕ → List Float
 doubles [] = []
 doubles (n ∷ ns) = double n ∷ doubles ns
+
+abbrev zeros : List ℕ → List Float
+zeros [] = []
+zeros (n ∷ ns) = double 0 ∷ zeros ns
+
+abbrev counts : ℕ → ℕ → ℕ → ℕ → Counts
+counts b i p w = record { before = b; inside = i; past = p; written = w }
 
 -- "tolerances 0 unless given: a_prev 1, previous [0, 4] cap 9, current [0, 4] cap 3"
 abbrev usual : Float → Request
@@ -43,10 +65,30 @@ Holds (root x r) = toBits binary64 (sqrtOf binary64 (double x)) ≡ r
 Holds (length x y r) = toBits binary64 (hypotOf binary64 (double x) (double y)) ≡ r
 Holds (fusion x y z r) = toBits binary64 (fmaOf binary64 (double x) (double y) (double z)) ≡ r
 Holds (recovery tol rows a) = recovered (usual (double tol)) (doubles rows) ≡ a
+Holds (times s a t0 r out) = Times (doubles s) (doubles a) (double t0) (zeros out) r (doubles out)
+Holds (slopes s a out) = Slopes (doubles s) (doubles a) (zeros out) Sloped·Done (doubles out)
+Holds (samples s a t x c out) = Listed (doubles s) (doubles a) (doubles t) (doubles x) (zeros out) (Sampled·Done c) (doubles out)
+Holds (grid s a t t0 dt c out) = Gridded (doubles s) (doubles a) (doubles t) (double t0) (double dt) true (zeros out) (Sampled·Done c) (doubles out)
 
 abbrev pub AllHold : List Case → Type 0
 AllHold [] = Unit
 AllHold (c ∷ cs) = Holds c × AllHold cs
+
+abbrev ten : ℕ
+ten = 0x4024_0000_0000_0000
+
+abbrev twelve : ℕ
+twelve = 0x4028_0000_0000_0000
+
+-- 0, 1, 3; 0, 4, 4; 10, 11, 12
+abbrev knots : List ℕ
+knots = 0 ∷ 0x3ff0_0000_0000_0000 ∷ 0x4008_0000_0000_0000 ∷ []
+
+abbrev squares : List ℕ
+squares = 0 ∷ 0x4010_0000_0000_0000 ∷ 0x4010_0000_0000_0000 ∷ []
+
+abbrev stamps : List ℕ
+stamps = ten ∷ 0x4026_0000_0000_0000 ∷ twelve ∷ []
 
 abbrev pub starred : List Case
 starred =
@@ -67,4 +109,12 @@ starred =
     (Certified (double 0x4002_0000_0000_0000) (double 0x3fd0_0000_0000_0000) (double 0x3fe0_0000_0000_0000) 2)
     -- row (0, 0, -1): 6
     ∷ recovery 0 (0 ∷ 0 ∷ 0xbff0_0000_0000_0000 ∷ []) (Refused 6)
+    -- s 0, 1, 3; a 0, 4, 4; t0 10: times 10, 11, 12; b 2, 0
+    ∷ times knots squares ten (Timed·Done (double twelve)) stamps
+    ∷ slopes knots squares (0x4000_0000_0000_0000 ∷ 0 ∷ [])
+    -- samples 9, 10, 10.5, 11, 11.5, 12, 12.5: NaN, 0, 0.25, 1, 2, 3, NaN; before 1, inside 5, past 1
+    ∷ samples knots squares stamps (0x4022_0000_0000_0000 ∷ ten ∷ 0x4025_0000_0000_0000 ∷ 0x4026_0000_0000_0000 ∷ 0x4027_0000_0000_0000 ∷ twelve ∷ 0x4029_0000_0000_0000 ∷ [])
+    (counts 1 5 1 7) (0x7ff8_0000_0000_0000 ∷ 0 ∷ 0x3fd0_0000_0000_0000 ∷ 0x3ff0_0000_0000_0000 ∷ 0x4000_0000_0000_0000 ∷ 0x4008_0000_0000_0000 ∷ 0x7ff8_0000_0000_0000 ∷ [])
+    -- grid from 10 by 0.5 with final: 0, 0.25, 1, 2, 3
+    ∷ grid knots squares stamps ten 0x3fe0_0000_0000_0000 (counts 0 4 0 5) (0 ∷ 0x3fd0_0000_0000_0000 ∷ 0x3ff0_0000_0000_0000 ∷ 0x4000_0000_0000_0000 ∷ 0x4008_0000_0000_0000 ∷ [])
     ∷ []
