@@ -1,0 +1,148 @@
+-- What each row brings to the worst figures and to the projected ends: values to a maximum or a minimum, so that `Gathered` says what follows. Assumes nothing.
+use mathlib.Core.Path.{_≡_, refl, subst}
+use mathlib.Core.Logic.{inl, inr}
+use mathlib.Core.List.{List, [], _∷_, foldl}
+use mathlib.Core.Bool.{Bool, true, false, not, _&&_, cond}
+use lib.Dec.{T}
+use lib.Ieee.{Float, binary64, le, lt, eq, isNan, ofBits, fits}
+use lib.Ieee.Bits.{ofBits-fits}
+use lib.Ieee.Fits.{and-l, sub-fits, div-fits}
+use Rattle.number.specs.Leaves.{negative, countsBelow, minimum, maximum}
+use Rattle.number.proofs.Fractions.{or-split}
+use Rattle.number.proofs.Order.{number, no-nan, lt-le, eq-le, le-number, le-reflexive, le-transitive}
+use Rattle.number.proofs.Folds.{All}
+use Rattle.number.proofs.Extremes.{Fits, minimum-lattice, maximum-lattice}
+use Rattle.loops.specs.Rows.{Row}
+use Rattle.topp2_ra.specs.Doubles as doubles
+use Rattle.topp2_ra.specs.Doubles.{_⊘_}
+use Rattle.topp2_ra.specs.Bounds.{lower, upper}
+use Rattle.topp2_ra.specs.Row.{empty, normalized, raw, rawNormalized}
+use Rattle.topp2_ra.specs.Certificate.{worseNormalized, worseRaw}
+use Rattle.topp2_ra.specs.Search.{reach, slope, narrowed, projected}
+use Rattle.topp2_ra.specs.declared.request.Request.{Request}
+use Rattle.topp2_ra.specs.declared.projection.Span.{Span}
+use Rattle.passing.specs.Demand.{Doubles}
+use Rattle.passing.proofs.Gathered.{fold-keeps}
+
+module _ (q : Request) where
+  -- a row's end
+  abbrev end : Row → Float
+  end w = reach q w ⊘ slope w
+
+  -- ---- what a row brings; an empty row brings nothing
+
+  abbrev pub asNormalized : Float → Row → List Float
+  asNormalized x w = cond (empty w) [] (normalized q x w ∷ rawNormalized q x w ∷ [])
+
+  abbrev pub asRaw : Float → Row → List Float
+  asRaw x w = cond (empty w) [] (raw q x w ∷ [])
+
+  abbrev pub asLow : Row → List Float
+  asLow w = cond (empty w) [] (cond (lt doubles.zero (slope w)) [] (cond (lt (slope w) doubles.zero) (end w ∷ []) []))
+
+  abbrev pub asHigh : Row → List Float
+  asHigh w = cond (empty w) [] (cond (lt doubles.zero (slope w)) (end w ∷ []) [])
+
+  pub brings-normalized : (x s : Float) (w : Row) → worseNormalized q x s w ≡ foldl maximum s (asNormalized x w)
+  unfolding worseNormalized
+  brings-normalized x s w = go (empty w)
+    where
+      go : (b : Bool) → cond b s (maximum (maximum s (normalized q x w)) (rawNormalized q x w)) ≡ foldl maximum s (cond b [] (normalized q x w ∷ rawNormalized q x w ∷ []))
+      go true = refl
+      go false = refl
+
+  pub brings-raw : (x s : Float) (w : Row) → worseRaw q x s w ≡ foldl maximum s (asRaw x w)
+  unfolding worseRaw
+  brings-raw x s w = go (empty w)
+    where
+      go : (b : Bool) → cond b s (maximum s (raw q x w)) ≡ foldl maximum s (cond b [] (raw q x w ∷ []))
+      go true = refl
+      go false = refl
+
+  -- `narrowed` by its three tests: empty, slope above zero, slope below zero
+  abbrev step : Span → Row → Bool → Bool → Bool → Span
+  step s w e p n = cond e s (cond p (record { low = s .low; high = minimum (s .high) (end w) }) (cond n (record { low = maximum (s .low) (end w); high = s .high }) s))
+
+  pub brings-low : (s : Span) (w : Row) → narrowed q s w .low ≡ foldl maximum (s .low) (asLow w)
+  unfolding narrowed
+  brings-low s w = go (empty w) (lt doubles.zero (slope w)) (lt (slope w) doubles.zero)
+    where
+      go : (e p n : Bool) → step s w e p n .low ≡ foldl maximum (s .low) (cond e [] (cond p [] (cond n (end w ∷ []) [])))
+      go true p n = refl
+      go false true n = refl
+      go false false true = refl
+      go false false false = refl
+
+  pub brings-high : (s : Span) (w : Row) → narrowed q s w .high ≡ foldl minimum (s .high) (asHigh w)
+  unfolding narrowed
+  brings-high s w = go (empty w) (lt doubles.zero (slope w)) (lt (slope w) doubles.zero)
+    where
+      go : (e p n : Bool) → step s w e p n .high ≡ foldl minimum (s .high) (cond e [] (cond p (end w ∷ []) []))
+      go true p n = refl
+      go false true n = refl
+      go false false true = refl
+      go false false false = refl
+
+  -- ---- all of it was computed, so that it is a double
+
+  abbrev pub Held : List Float → Type 0
+  Held = All (Fits binary64)
+
+  one-of : (b : Bool) (l m : List Float) → Held l → Held m → Held (cond b l m)
+  one-of true l m h k = h
+  one-of false l m h k = k
+
+  end-held : (w : Row) → Held (end w ∷ [])
+  end-held w = (div-fits binary64 (reach q w) (slope w), tt)
+
+  pub normalized-held : (x : Float) (w : Row) → Held (asNormalized x w)
+  normalized-held x w = one-of (empty w) [] (normalized q x w ∷ rawNormalized q x w ∷ []) tt (sub-fits binary64 _ _, (div-fits binary64 _ _, tt))
+
+  pub raw-held : (x : Float) (w : Row) → Held (asRaw x w)
+  raw-held x w = one-of (empty w) [] (raw q x w ∷ []) tt (sub-fits binary64 _ _, tt)
+
+  pub low-held : (w : Row) → Held (asLow w)
+  low-held w = one-of (empty w) [] _ tt (one-of (lt doubles.zero (slope w)) [] _ tt (one-of (lt (slope w) doubles.zero) (end w ∷ []) [] (end-held w) tt))
+
+  pub high-held : (w : Row) → Held (asHigh w)
+  high-held w = one-of (empty w) [] _ tt (one-of (lt doubles.zero (slope w)) (end w ∷ []) [] (end-held w) tt)
+
+-- ---- the bounds and the projected ends
+
+-- the greater is no less than the first, which is a number
+not-less : (x y : Float) → T (number x) → T (le x (maximum x y))
+unfolding maximum countsBelow
+not-less x y X = rw (no-nan x X) (go (isNan y) (countsBelow x y) (λ t. t))
+  where
+    go : (n b : Bool) → (T b → T (countsBelow x y)) → T (le x (cond n x (cond b y x)))
+    go true b h = le-reflexive x X
+    go false false h = le-reflexive x X
+    go false true h = elim (or-split (lt x y) (eq x y && (negative x && not (negative y))) (h tt)) [ inl l ↦ lt-le x y l | inr e ↦ eq-le x y (and-l (eq x y) (negative x && not (negative y)) e) ]
+
+module _ (q : Request) (D : Doubles q) where
+  abbrev ends : Span
+  ends = record { low = lower q; high = upper q }
+
+  pub lower-fits : T (fits binary64 (lower q))
+  lower-fits = maximum-lattice binary64 .closed (q .«curr_backward» .lower) doubles.zero (D .lower-fits) (ofBits-fits binary64 0)
+
+  pub upper-fits : T (fits binary64 (upper q))
+  upper-fits = minimum-lattice binary64 .closed (q .«curr_backward» .upper) (q .«curr_path_max») (D .upper-fits) (D .cap-fits)
+
+  pub high-fits : (rows : List Row) → T (fits binary64 (projected q rows .high))
+  high-fits = fold-keeps (λ (s : Span). s .high) minimum (narrowed q) (asHigh q) (brings-high q) (Fits binary64) (Fits binary64) (minimum-lattice binary64 .closed) (high-held q) ends upper-fits
+
+  zero-number : T (number doubles.zero)
+  unfolding ofBits
+  zero-number = tt
+
+  -- "lower = max(current lower, +0)"
+  lower-from-zero : T (le doubles.zero (lower q))
+  lower-from-zero =
+      subst (λ (x : Float). T (le doubles.zero x)) (maximum-lattice binary64 .commutative doubles.zero (q .«curr_backward» .lower) (ofBits-fits binary64 0) (D .lower-fits))
+      (not-less doubles.zero (q .«curr_backward» .lower) zero-number)
+
+  pub low-from-zero : (rows : List Row) → T (le doubles.zero (projected q rows .low))
+  low-from-zero =
+      fold-keeps (λ (s : Span). s .low) maximum (narrowed q) (asLow q) (brings-low q) (λ (x : Float). T (le doubles.zero x)) (Fits binary64)
+      (λ x y p k. le-transitive doubles.zero x (maximum x y) p (not-less x y (le-number doubles.zero x p .1))) (low-held q) ends lower-from-zero

@@ -1,0 +1,162 @@
+-- Demand 3: "If its speed isn't the cap and the projected upper end is at least 2^-1021, that speed is the greatest passing double not above that end." Assumes nothing.
+use mathlib.Core.Path.{_≡_, refl, sym, subst}
+use mathlib.Core.Logic.{inl, inr}
+use mathlib.Core.List.{List}
+use mathlib.Core.Bool.{Bool, true, false, not}
+use Prim.Native.Nat.{ℕ, zero, suc, _+_, _^_}
+use lib.Dec.{T, T-not, lit≤}
+use lib.Ieee.{Float, inf, binary64, le, lt, fits}
+use lib.Ieee.Scale.{finite}
+use Rattle.number.specs.Leaves.{nextDown}
+use Rattle.number.specs.Units.{unitsOf}
+use Rattle.number.proofs.Order.{nought, number, finite-number, le-number, lt-number, lt-le, le-reflexive, le-transitive, lt-not-le, lt-or-le, between-finite, no-less}
+use Rattle.number.proofs.Neighbour.{next-fits, next-less, next-nearest}
+use Rattle.loops.specs.Rows.{Row, rowsOf}
+use Rattle.topp2_ra.specs.Bounds.{upper}
+use Rattle.topp2_ra.specs.Certificate.{passes, certificate}
+use Rattle.topp2_ra.specs.Search.{projected, middle, stops, halvings, afterMiddle, withMiddle, tryMiddle, neighbours, tryNeighbours, searched}
+use Rattle.topp2_ra.specs.Recovery.{recovered}
+use Rattle.topp2_ra.specs.declared.request.Request.{Request}
+use Rattle.topp2_ra.specs.declared.request.Answer.{Answer}
+use Rattle.topp2_ra.specs.declared.request.Answer.the-variants.{Certified, Refused}
+use Rattle.topp2_ra.specs.declared.projection.Span.{Span}
+use Rattle.topp2_ra.specs.declared.halving.Ends.{Ends}
+use Rattle.topp2_ra.specs.declared.certificate.Certificate.{Certificate}
+use Rattle.topp2_ra.specs.declared.certificate.Certificate.the-variants.{Passed, Failed}
+use Rattle.passing.specs.Demand.{Doubles, smallest, Greatest}
+use Rattle.passing.proofs.NoGap.{zero-is, passes-between, no-gap}
+use Rattle.passing.proofs.Brought.{high-fits, low-from-zero}
+use Rattle.passing.proofs.Halvings.{Gap}
+use Rattle.passing.proofs.Certified.{verdict, verdict-is, of-searched, of-recovered}
+use Rattle.passing.proofs.Bracket.{middle-is, Bracket, Ended, halvings-end}
+use Rattle.passing.proofs.Start.{middle-upto, first-gap}
+
+-- -infinity is below every finite value
+above-infinity : (x : Float) → T (finite x) → T (lt (inf true) x)
+above-infinity x X = elim (lt-or-le (inf true) x tt (finite-number x X)) [ inl l ↦ l | inr g ↦ absurd (subst (λ (v : Float). T (finite v)) (no-less x g) X) ]
+
+module _ (q : Request) (rows : List Row) where
+  abbrev s : Span
+  s = projected q rows
+
+  abbrev low : Float
+  low = s .low
+
+  abbrev high : Float
+  high = s .high
+
+  passing-number : (x : Float) → T (passes q rows x) → T (number x)
+  passing-number x p = finite-number x (passes-between q rows x p .is-finite)
+
+  -- what passes and is not above what fails is below it: between equals there is no gap either
+  below-rejected : (x y : Float) → T (not (passes q rows x)) → T (passes q rows y) → T (le y x) → T (lt y x)
+  below-rejected x y f p h = elim (lt-or-le y x (le-number y x h .0) (le-number y x h .1)) [ inl l ↦ l | inr g ↦ absurd (T-not (passes q rows x) f (no-gap q rows y x y h g p p)) ]
+
+  -- a certified speed that is not the cap is the greatest
+  abbrev Answers : Answer → Type 0
+  Answers (Certified x n r t) = (x ≡ upper q → ⊥) → Greatest q rows x
+  Answers (Refused k) = Unit
+
+  module _ (D : Doubles q) (large : T (le smallest high)) (L : T (finite low)) (F : T (finite high)) (order : T (le low high)) where
+    -- ---- by halving
+
+    -- a passing double above the passing end would lie between the ends, where none is, or from the rejected end up, and then that would pass too
+    ended-greatest : (e : Ends) → Ended q rows high e → Greatest q rows (e .passing)
+    ended-greatest e E = record {
+      passing = E .passing-passes;
+      not-above = le-transitive (e .passing) (e .rejected) high (lt-le (e .passing) (e .rejected) (E .order)) (E .upto-high);
+      greatest = λ y G p h. elim (lt-or-le (e .passing) y (lt-number (e .passing) (e .rejected) (E .order) .0) (passing-number y p)) [
+        | inr g ↦ g
+        | inl l ↦ elim (lt-or-le y (e .rejected) (passing-number y p) (lt-number (e .passing) (e .rejected) (E .order) .1)) [
+          | inl k ↦ absurd (E .empty y G l k)
+          | inr k ↦ absurd (T-not (passes q rows (e .rejected)) (E .rejected-fails) (no-gap q rows (e .passing) (e .rejected) y (lt-le (e .passing) (e .rejected) (E .order)) k (E .passing-passes) p))
+        ]
+      ];
+    }
+
+    start : (n r : Float) (t : ℕ) → T (not (passes q rows high)) → T (passes q rows (middle low high))
+        → Bracket q rows high (unitsOf binary64 (middle low high)) (record { passing = middle low high; «worst_normalized» = n; «worst_raw» = r; rejected = high; tried = t }) (2 ^ 53)
+    start n r t f p =
+        let from-zero : T (le nought low) = subst (λ (x : Float). T (le x low)) zero-is (low-from-zero q D rows) in
+        let fit = high-fits q D rows in
+        let upto : T (le (middle low high) high) = subst (λ (x : Float). T (le x high)) (sym (middle-is low high)) (middle-upto low high L F fit from-zero order large) in
+        let l = below-rejected high (middle low high) f p upto in
+        record {
+          gap = subst (λ (x : Float). Gap binary64 (unitsOf binary64 x) x high (2 ^ 53)) (sym (middle-is low high)) (first-gap low high L F fit from-zero order large (subst (λ (x : Float). T (lt x high)) (middle-is low high) l));
+          passing-passes = p;
+          rejected-fails = f;
+          upto-high = le-reflexive high (finite-number high F);
+        }
+
+    middle-answers : (t : ℕ) → T (not (passes q rows high)) → Answers (tryMiddle q rows s t)
+    unfolding tryMiddle withMiddle afterMiddle
+    middle-answers t f = go (certificate q rows m) (verdict-is q rows m)
+      where
+        m : Float
+        m = middle low high
+
+        go : (c : Certificate) → verdict c ≡ passes q rows m → Answers (withMiddle q rows s t c)
+        go Failed v = tt
+        go (Passed n r) v = λ cap.
+            let e : Ends = record { passing = m; «worst_normalized» = n; «worst_raw» = r; rejected = high; tried = t + 1 } in
+            ended-greatest (halvings q rows 64 (stops e) e) (halvings-end q rows high 64 (unitsOf binary64 m) e (2 ^ 53) (start n r (t + 1) f (subst T v tt)) (lit≤ tt))
+
+    -- ---- by neighbours
+
+    -- x is a double not above high, and what passes, up to high, is not above x
+    record Upto (x : Float) : Type 0 where
+      fit : T (fits binary64 x)
+      not-above : T (le x high)
+      covers : (y : Float) → T (fits binary64 y) → T (passes q rows y) → T (le y high) → T (le y x)
+
+    -- "the next smaller double": none lies between
+    next : (x : Float) → Upto x → T (le low x) → T (not (passes q rows x)) → Upto (nextDown binary64 x)
+    next x U l f =
+        let y = nextDown binary64 x in
+        let less = next-less binary64 x (U .fit) (above-infinity x (between-finite low x high L F l (U .not-above))) in
+        record {
+          fit = next-fits binary64 x (U .fit);
+          not-above = le-transitive y x high (lt-le y x less) (U .not-above);
+          covers = λ v G p h. elim (lt-or-le y v (lt-number y x less .0) (passing-number v p)) [
+            | inl k ↦ absurd (next-nearest binary64 x v (U .fit) G k (below-rejected x v f p (U .covers v G p h)))
+            | inr k ↦ k
+          ];
+        }
+
+    found : (x : Float) → T (passes q rows x) → Upto x → Greatest q rows x
+    found x p U = record { passing = p; not-above = U .not-above; greatest = U .covers }
+
+    next-answers : (n : ℕ) (b : Bool) (c : Certificate) (x : Float) (t : ℕ) → b ≡ lt x low → verdict c ≡ passes q rows x → T (not (passes q rows high)) → Upto x → Answers (neighbours q rows s n b c x t)
+    unfolding neighbours
+    next-answers zero b c x t e v f U = middle-answers t f
+    next-answers (suc n) true c x t e v f U = middle-answers t f
+    next-answers (suc n) false (Passed a r) x t e v f U = λ cap. found x (subst T v tt) U
+    next-answers (suc n) false Failed x t e v f U =
+        let y = nextDown binary64 x in
+        let from : T (le low x) = elim (lt-or-le x low (le-number x high (U .not-above) .0) (finite-number low L)) [ inl l ↦ absurd (subst T (sym e) l) | inr g ↦ g ] in
+        next-answers n (lt y low) (certificate q rows y) y (t + 1) refl (verdict-is q rows y) f (next x U from (subst (λ (b : Bool). T (not b)) v tt))
+
+    high-covers : Upto high
+    high-covers = record { fit = high-fits q D rows; not-above = le-reflexive high (finite-number high F); covers = λ y G p h. h }
+
+    -- high itself, and then its neighbours
+    first-answers : (n : ℕ) (b : Bool) (c : Certificate) → b ≡ lt high low → verdict c ≡ passes q rows high → Answers (neighbours q rows s (suc n) b c high 1)
+    unfolding neighbours
+    first-answers n true c e v = absurd (lt-not-le high low (subst T e tt) order)
+    first-answers n false (Passed a r) e v = λ cap. found high (subst T v tt) high-covers
+    first-answers n false Failed e v =
+        let y = nextDown binary64 high in
+        let f = subst (λ (b : Bool). T (not b)) v tt in
+        next-answers n (lt y low) (certificate q rows y) y 2 refl (verdict-is q rows y) f (next high high-covers order f)
+
+  searched-answers : Doubles q → T (le smallest high) → Answers (searched q rows s)
+  unfolding tryNeighbours
+  searched-answers D large = of-searched Answers (λ k. tt) q rows s (λ L F o.
+      let order : T (le low high) = elim (lt-or-le high low (finite-number high F) (finite-number low L)) [ inl l ↦ absurd (T-not (lt high low) o l) | inr g ↦ g ] in
+      first-answers D large L F order 4 (lt high low) (certificate q rows high) refl (verdict-is q rows high))
+
+-- "that speed is the greatest passing double not above that end"
+pub greatest : (q : Request) (l : List Float) (x n r : Float) (t : ℕ) → Doubles q → recovered q l ≡ Certified x n r t → (x ≡ upper q → ⊥) → T (le smallest (projected q (rowsOf l) .high)) → Greatest q (rowsOf l) x
+greatest q l x n r t D e cap large =
+    let rows = rowsOf l in
+    subst (Answers q rows) e (of-recovered (Answers q rows) (λ k. tt) q l (λ n r c is-cap. absurd (is-cap refl)) (searched-answers q rows D large)) cap
