@@ -3,16 +3,21 @@ use mathlib.Core.Bool.{Bool, _&&_, cond}
 use lib.Ieee.{Float}
 use Rattle.number.specs.Leaves.{maximum}
 use Rattle.loops.specs.Rows.{Row}
-use Rattle.topp2_ra.specs.Row.{empty, normalized, raw, rawNormalized, admits}
+use Rattle.topp2_ra.specs.Row.{norm, empty, inv, rawTol, normalized, raw, rawNormalized, admits}
 use Rattle.topp2_ra.specs.Search.{unreachable, flat}
 use Rattle.topp2_ra.specs.Recovery.{unfit, unmeetable}
 use Rattle.topp2_ra.specs.declared.request.Request.{Request}
+use Rattle.topp2_ra.specs.declared.row.Scale.{Scale}
 use Rattle.topp2_ra.specs.declared.row.Judged.{Judged}
 use Rattle.topp2_ra.specs.declared.row.Judged.the-variants.{Broken, Empty, Fits}
 use Rattle.topp2_ra.specs.declared.certificate.Certificate.{Certificate}
 use Rattle.topp2_ra.specs.declared.certificate.Certificate.the-variants.{Passed, Failed}
 use Rattle.topp2_ra.specs.declared.scan.Class.{Class}
 use Rattle.topp2_ra.specs.declared.scan.Class.the-variants.{Unfit, Unmeetable, Unreachable, Flat}
+
+-- what depends on the row and the tolerance alone
+abbrev pub scaleOf : Request → Row → Scale
+scaleOf q w = record { norm = norm w; inv = inv w; «raw_tol» = rawTol q w }
 
 -- one row: the verdict, and the residuals where there are any
 unfoldable pub judged : Request → Float → Row → Judged

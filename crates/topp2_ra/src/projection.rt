@@ -18,14 +18,14 @@ pub struct Span {
 pub(crate) fn reach(q: Request, c: f64, p: f64, r: f64) -> f64
     ensures { λ v. ⌜ v ≡ reach q (row c p r) ⌝ }
 {
-    let inv = 1.0 / hypot::hypot(c, p);
-    r * inv + pick::minimum(q.feas_tol, row::raw_tol(q, c, p, r) * inv) - (p * inv) * q.a_prev
+    let s = row::scaled(q, c, p, r);
+    r * s.inv + pick::minimum(q.feas_tol, s.raw_tol * s.inv) - (p * s.inv) * q.a_prev
 }
 
-pub(crate) fn slope(c: f64, p: f64, r: f64) -> f64
+pub(crate) fn slope(q: Request, c: f64, p: f64, r: f64) -> f64
     ensures { λ v. ⌜ v ≡ slope (row c p r) ⌝ }
 {
-    c * (1.0 / hypot::hypot(c, p))
+    c * row::scaled(q, c, p, r).inv
 }
 
 fn narrow(q: Request, s: Span, c: f64, p: f64, r: f64) -> Span
@@ -34,7 +34,7 @@ fn narrow(q: Request, s: Span, c: f64, p: f64, r: f64) -> Span
     if hypot::hypot(c, p) == 0.0 {
         return s;
     }
-    let slope = slope(c, p, r);
+    let slope = slope(q, c, p, r);
     let reach = reach(q, c, p, r);
     if 0.0 < slope {
         return Span {

@@ -20,13 +20,13 @@ pub enum Class {
 fn is_unfit(q: Request, c: f64, p: f64, r: f64) -> bool
     ensures { λ b. ⌜ b ≡ unfit q (row c p r) ⌝ }
 {
-    let n = hypot::hypot(c, p);
-    if row::four_finite(c, p, r, n) {
-        if n == 0.0 {
+    let s = row::scaled(q, c, p, r);
+    if row::four_finite(c, p, r, s.norm) {
+        if s.norm == 0.0 {
             return false;
         }
-        if size::finite(1.0 / n) {
-            if size::finite(row::raw_tol(q, c, p, r)) {
+        if size::finite(s.inv) {
+            if size::finite(s.raw_tol) {
                 return false;
             }
         }
@@ -61,7 +61,7 @@ fn is_flat(q: Request, c: f64, p: f64, r: f64) -> bool
     if hypot::hypot(c, p) == 0.0 {
         return false;
     }
-    let slope = projection::slope(c, p, r);
+    let slope = projection::slope(q, c, p, r);
     if 0.0 < slope {
         return false;
     }

@@ -1,13 +1,12 @@
+use mathlib.Core.Path.{ap}
 use Rattle.topp2_ra.specs.Search.{reach}
+use Rattle.topp2_ra.specs.declared.row.Scale.{Scale}
 use borrow.Author.Needs.{needs}
 use Rattle.topp2_ra.proofs.projection.reach.Statement.{statement}
 use Rattle.topp2_ra.proofs.projection.reach.Tie as tie
 
-hypot-requires : tie.Need-hypot-requires
-hypot-requires c κs = search needs
-
-raw-tol-requires : tie.Need-raw-tol-requires
-raw-tol-requires c κs = search needs
+scaled-requires : tie.Need-scaled-requires
+scaled-requires c κs = search needs
 
 minimum-requires : tie.Need-minimum-requires
 minimum-requires c κs = search needs
@@ -16,10 +15,10 @@ returns : tie.Need-returns
 unfolding reach
 returns c =
     simp (
-      ← c .before .minimum .ensures,
-      ← c .before .before .raw-tol .ensures,
-      ← c .before .before .before .hypot .ensures,
+      ← ap (λ (s : Scale). s .inv) (c .before .before .before .before .before .scaled .ensures),
+      ← ap (λ (s : Scale). s .«raw_tol») (c .before .before .before .before .before .scaled .ensures),
+      ← c .before .before .minimum .ensures,
     )
 
 pub reach-spec : {M : Type 1} → statement M
-reach-spec = tie.close (tie.spec hypot-requires raw-tol-requires minimum-requires returns)
+reach-spec = tie.close (tie.spec scaled-requires minimum-requires returns)

@@ -1,17 +1,19 @@
+use mathlib.Core.Path.{ap}
 use Rattle.topp2_ra.specs.Search.{slope}
+use Rattle.topp2_ra.specs.declared.row.Scale.{Scale}
 use borrow.Author.Needs.{needs}
 use Rattle.topp2_ra.proofs.projection.slope.Statement.{statement}
 use Rattle.topp2_ra.proofs.projection.slope.Tie as tie
 
-hypot-requires : tie.Need-hypot-requires
-hypot-requires c κs = search needs
+scaled-requires : tie.Need-scaled-requires
+scaled-requires c κs = search needs
 
 returns : tie.Need-returns
 unfolding slope
 returns c =
     simp
-    (← c .hypot .ensures
+    (← ap (λ (s : Scale). s .inv) (c .before .scaled .ensures)
     )
 
 pub slope-spec : {M : Type 1} → statement M
-slope-spec = tie.close (tie.spec hypot-requires returns)
+slope-spec = tie.close (tie.spec scaled-requires returns)

@@ -1,11 +1,13 @@
+use mathlib.Core.Path.{ap}
 use Rattle.topp2_ra.specs.Steps.{judged}
 use Rattle.topp2_ra.specs.Row.{admits, numbersFinite}
+use Rattle.topp2_ra.specs.declared.row.Scale.{Scale}
 use borrow.Author.Needs.{needs}
 use Rattle.topp2_ra.proofs.row.judge.Statement.{statement}
 use Rattle.topp2_ra.proofs.row.judge.Tie as tie
 
-hypot-requires : tie.Need-hypot-requires
-hypot-requires c κs = search needs
+scaled-requires : tie.Need-scaled-requires
+scaled-requires c κs = search needs
 
 four-finite-requires : tie.Need-four-finite-requires
 four-finite-requires c κs = search needs
@@ -16,9 +18,9 @@ returns c =
     simp (
       c .if3 .taken,
       c .before .if2 .taken,
-      c .before .before .if1 .taken,
-      ← c .before .before .before .four-finite .ensures,
-      ← c .before .before .before .before .hypot .ensures,
+      c .before .before .before .if1 .taken,
+      ← c .before .before .before .before .four-finite .ensures,
+      ← ap (λ (s : Scale). s .norm) (c .before .before .before .before .before .scaled .ensures),
     )
 
 returns-2 : tie.Need-returns-2
@@ -27,17 +29,17 @@ returns-2 c =
     simp (
       c .if3 .left,
       c .before .if2 .taken,
-      c .before .before .if1 .taken,
-      ← c .before .before .before .four-finite .ensures,
-      ← c .before .before .before .before .hypot .ensures,
+      c .before .before .before .if1 .taken,
+      ← c .before .before .before .before .four-finite .ensures,
+      ← ap (λ (s : Scale). s .norm) (c .before .before .before .before .before .scaled .ensures),
     )
 
 weigh-requires : tie.Need-weigh-requires
 unfolding numbersFinite
 weigh-requires c κs =
-    let n = c .before .before .before .hypot .ensures in (
-      n,
-      simp (← n, ← c .before .before .four-finite .ensures) (c .before .if1 .taken),
+    let n = ap (λ (s : Scale). s .norm) (c .before .before .before .before .scaled .ensures) in (
+      c .before .before .before .before .scaled .ensures,
+      simp (← n, ← c .before .before .before .four-finite .ensures) (c .before .before .if1 .taken),
       simp (← n) (c .if2 .left),
     )
 
@@ -50,14 +52,14 @@ returns-4 c =
     simp (
       c .if1 .left,
       ← c .before .four-finite .ensures,
-      ← c .before .before .hypot .ensures,
+      ← ap (λ (s : Scale). s .norm) (c .before .before .scaled .ensures),
     )
 
 pub judge-spec : {M : Type 1} → statement M
 judge-spec =
     tie.close
     (tie.spec
-    hypot-requires
+    scaled-requires
     four-finite-requires
     returns
     returns-2
