@@ -7,7 +7,7 @@ mod timing;
 use libc::STDOUT_FILENO;
 
 fn main() {
-    let cases = leaves::run() + recovery::run() + timing::run();
+    let cases = timing::run(recovery::run(leaves::run(0)));
     io::print_decimal(STDOUT_FILENO, cases);
     io::write_all(STDOUT_FILENO, b" cases\n");
 }

@@ -5,7 +5,6 @@ use topp2_ra::recovery::recover_forward_intersection;
 use topp2_ra::request::Answer;
 use topp2_ra::request::Interval;
 use topp2_ra::request::Request;
-ghost use mathlib.Core.Path.{_≡_};
 
 // a_prev, previous [0, 4] cap 9, current [lower, upper] with its cap; comparison tolerances 0.
 fn request(a_prev: f64, lower: f64, upper: f64, cap: f64, feas_tol: f64) -> Request {
@@ -164,46 +163,46 @@ fn middle_stays() -> bool {
 }
 
 // 01's own, in its order.
-fn paper() -> u64
-    ensures { λ r. ⌜ r ≡ 6 ⌝ }
-{
-    tell(b"rc1", cap_given(0.0, 4.0, 3.0, 3.0))
-        + tell(b"rc2", row_gives(1.0, 0.0, 2.0, 0.0, 2.0, 0.0, 0.0, 2))
-        + tell(b"rc3", row_gives(2.0, 0.0, 4.0, 0.25, 2.25, 0.25, 0.5, 2))
-        + tell(b"rc4", row_refused(0.0, 0.0, -1.0, 6))
-        + tell(b"rc5", row_gives(0.0, 0.0, 0.0, 0.0, 3.0, 0.0, 0.0, 1))
-        + tell(b"rc6", row_refused(-1.0, 0.0, -5.0, 8))
+fn paper(n: u64) -> u64 {
+    let n = tell(n, b"rc1", cap_given(0.0, 4.0, 3.0, 3.0));
+    let n = tell(n, b"rc2", row_gives(1.0, 0.0, 2.0, 0.0, 2.0, 0.0, 0.0, 2));
+    let n = tell(
+        n,
+        b"rc3",
+        row_gives(2.0, 0.0, 4.0, 0.25, 2.25, 0.25, 0.5, 2),
+    );
+    let n = tell(n, b"rc4", row_refused(0.0, 0.0, -1.0, 6));
+    let n = tell(n, b"rc5", row_gives(0.0, 0.0, 0.0, 0.0, 3.0, 0.0, 0.0, 1));
+    let n = tell(n, b"rc6", row_refused(-1.0, 0.0, -5.0, 8));
+    n
 }
 
-fn paper_limits() -> u64
-    ensures { λ r. ⌜ r ≡ 4 ⌝ }
-{
-    tell(b"rc7", most_rows())
-        + tell(b"rc8", too_many_rows())
-        + tell(b"rc9", cap_given(2.0, 2.0, 3.0, 2.0))
-        + tell(b"rc10", record_refused(1.0, 2.0, 2.0, 1.5, 0.0, 4))
+fn paper_limits(n: u64) -> u64 {
+    let n = tell(n, b"rc7", most_rows());
+    let n = tell(n, b"rc8", too_many_rows());
+    let n = tell(n, b"rc9", cap_given(2.0, 2.0, 3.0, 2.0));
+    let n = tell(n, b"rc10", record_refused(1.0, 2.0, 2.0, 1.5, 0.0, 4));
+    n
 }
 
 // The refusals that the paper's own cases do not show.
-fn refusals() -> u64
-    ensures { λ r. ⌜ r ≡ 8 ⌝ }
-{
+fn refusals(n: u64) -> u64 {
     let infinity = 1.0 / 0.0;
-    tell(b"rn1", part_of_a_row())
-        + tell(b"rn2", record_refused(1.0, 0.0, 4.0, 3.0, -1.0, 2))
-        + tell(b"rn3", record_refused(5.0, 0.0, 4.0, 3.0, 0.0, 3))
-        + tell(b"rn5a", row_refused(infinity, 0.0, 1.0, 5))
-        + tell(b"rn5b", row_refused(1.0e-310, 0.0, 1.0, 5))
-        + tell(b"rn5c", five_before_six())
-        + tell(b"rn7", row_refused(1.0e-300, 0.0, 1.0e300, 7))
-        + tell(b"rn9", middle_fails())
+    let n = tell(n, b"rn1", part_of_a_row());
+    let n = tell(n, b"rn2", record_refused(1.0, 0.0, 4.0, 3.0, -1.0, 2));
+    let n = tell(n, b"rn3", record_refused(5.0, 0.0, 4.0, 3.0, 0.0, 3));
+    let n = tell(n, b"rn5a", row_refused(infinity, 0.0, 1.0, 5));
+    let n = tell(n, b"rn5b", row_refused(1.0e-310, 0.0, 1.0, 5));
+    let n = tell(n, b"rn5c", five_before_six());
+    let n = tell(n, b"rn7", row_refused(1.0e-300, 0.0, 1.0e300, 7));
+    let n = tell(n, b"rn9", middle_fails());
+    n
 }
 
 // The projected end and its neighbours, at each depth.
-fn neighbours() -> u64
-    ensures { λ r. ⌜ r ≡ 5 ⌝ }
-{
-    tell(
+fn neighbours(n: u64) -> u64 {
+    let n = tell(
+        n,
         b"rw0",
         row_gives(
             7.0,
@@ -215,66 +214,70 @@ fn neighbours() -> u64
             9.99999860695766e-10,
             2,
         ),
-    )
-        + tell(
-            b"rw1",
-            row_gives(
-                1.0,
-                0.0,
-                1.0,
-                1.0e-9,
-                1.0000000009999999,
-                9.99999860695766e-10,
-                9.99999860695766e-10,
-                3,
-            ),
-        )
-        + tell(
-            b"rw2",
-            row_gives(
-                3.0,
-                1.0,
-                2.0,
-                1.0e-12,
-                0.33333333333399995,
-                6.323830348264892e-13,
-                1.999733711954832e-12,
-                4,
-            ),
-        )
-        + tell(
-            b"rw3",
-            row_gives(
-                1.1408494154437974,
-                1.0,
-                2.0,
-                1.0e-12,
-                0.8765398714890964,
-                9.99951798685047e-13,
-                1.5170087408478139e-12,
-                5,
-            ),
-        )
-        + tell(
-            b"rw4",
-            row_gives(
-                1.0,
-                1.6010613105879532,
-                2.0,
-                1.0e-9,
-                0.3989386912997431,
-                9.999999585542977e-10,
-                1.887696221558599e-9,
-                6,
-            ),
-        )
+    );
+    let n = tell(
+        n,
+        b"rw1",
+        row_gives(
+            1.0,
+            0.0,
+            1.0,
+            1.0e-9,
+            1.0000000009999999,
+            9.99999860695766e-10,
+            9.99999860695766e-10,
+            3,
+        ),
+    );
+    let n = tell(
+        n,
+        b"rw2",
+        row_gives(
+            3.0,
+            1.0,
+            2.0,
+            1.0e-12,
+            0.33333333333399995,
+            6.323830348264892e-13,
+            1.999733711954832e-12,
+            4,
+        ),
+    );
+    let n = tell(
+        n,
+        b"rw3",
+        row_gives(
+            1.1408494154437974,
+            1.0,
+            2.0,
+            1.0e-12,
+            0.8765398714890964,
+            9.99951798685047e-13,
+            1.5170087408478139e-12,
+            5,
+        ),
+    );
+    let n = tell(
+        n,
+        b"rw4",
+        row_gives(
+            1.0,
+            1.6010613105879532,
+            2.0,
+            1.0e-9,
+            0.3989386912997431,
+            9.999999585542977e-10,
+            1.887696221558599e-9,
+            6,
+        ),
+    );
+    n
 }
 
 // A speed between the middle and the end; and the middle.
-fn halvings() -> u64
-    ensures { λ r. ⌜ r ≡ 2 ⌝ }
-{
-    tell(
+fn halvings(n: u64) -> u64 {
+    let n = tell(
+        n,
         b"rw5",
         row_gives(
             1.0,
@@ -286,12 +289,16 @@ fn halvings() -> u64
             9.99866855977416e-13,
             58,
         ),
-    )
-        + tell(b"rw6", middle_stays())
+    );
+    let n = tell(n, b"rw6", middle_stays());
+    n
 }
 
-pub(crate) fn run() -> u64
-    ensures { λ r. ⌜ r ≡ 25 ⌝ }
-{
-    paper() + paper_limits() + refusals() + neighbours() + halvings()
+pub(crate) fn run(n: u64) -> u64 {
+    let n = paper(n);
+    let n = paper_limits(n);
+    let n = refusals(n);
+    let n = neighbours(n);
+    let n = halvings(n);
+    n
 }

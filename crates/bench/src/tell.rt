@@ -1,18 +1,20 @@
-// One case's line. It answers 1, so that a sum of cases is their number.
+// One case's line. It takes and returns how many there were.
 use libc::STDOUT_FILENO;
 use number::pattern::pattern_of;
-ghost use mathlib.Core.Path.{_≡_};
 
-pub(crate) fn tell(name: &[u8], same: bool) -> u64
-    ensures { λ r. ⌜ r ≡ 1 ⌝ }
-{
+pub(crate) fn tell(n: u64, name: &[u8], same: bool) -> u64 {
     io::write_all(STDOUT_FILENO, name);
+    ended(n, same)
+}
+
+// What follows the name.
+pub(crate) fn ended(n: u64, same: bool) -> u64 {
     if same {
         io::write_all(STDOUT_FILENO, b" same\n");
     } else {
         io::write_all(STDOUT_FILENO, b" differs\n");
     }
-    1
+    std::num::wrapping_add_u64(n, 1)
 }
 
 // Whether two lists have the same patterns.

@@ -9,7 +9,6 @@ use interpolation::slopes::Sloped;
 use interpolation::slopes::a_to_b_topp2;
 use interpolation::times::Timed;
 use interpolation::times::s_to_t_topp2;
-ghost use mathlib.Core.Path.{_≡_};
 
 // s 0, 1, 3; a 0, 4, 4; t0 10: times 10, 11, 12
 fn times() -> bool {
@@ -133,15 +132,14 @@ fn standing() -> bool {
     }
 }
 
-pub(crate) fn run() -> u64
-    ensures { λ r. ⌜ r ≡ 8 ⌝ }
-{
-    tell(b"tm1", times())
-        + tell(b"tm2", slopes())
-        + tell(b"tm3", samples())
-        + tell(b"tm4", fine_grid())
-        + tell(b"tm5", early_grid())
-        + tell(b"tm6", late_grid())
-        + tell(b"tm7", past_grid())
-        + tell(b"tm8", standing())
+pub(crate) fn run(n: u64) -> u64 {
+    let n = tell(n, b"tm1", times());
+    let n = tell(n, b"tm2", slopes());
+    let n = tell(n, b"tm3", samples());
+    let n = tell(n, b"tm4", fine_grid());
+    let n = tell(n, b"tm5", early_grid());
+    let n = tell(n, b"tm6", late_grid());
+    let n = tell(n, b"tm7", past_grid());
+    let n = tell(n, b"tm8", standing());
+    n
 }
