@@ -1,44 +1,20 @@
--- The front of filled memory, entry by entry, and as a list of its own.
+-- The front of filled memory as a list of its own.
 use Prim.Native.Nat.{ℕ, zero, suc, _<_, _≤_}
 use mathlib.Core.Path.{_≡_, refl, sym, ap, _∙_}
 use mathlib.Core.Bool.{Bool}
-use mathlib.Core.Logic.{⊎-elim}
-use mathlib.Core.List.{List, [], _∷_}
-use native.Mathlib.Nat.{eq-or-lt-of-le, le-of-suc-le-suc}
+use mathlib.Core.List.{List}
 use native.Mathlib.Omega.{arith}
-use lib.ListN.{length, take, drop, List·getD-append}
-use lib.Seq.{getD-at, take-at, length-take-le}
-use lib.Ieee.{Float, nan}
+use lib.ListN.{length, take, drop}
+use lib.Seq.{take-at, length-take-le}
+use lib.Ieee.{Float}
 use Rattle.loops.specs.Upto.{every, table, filled, at}
-use Rattle.loops.proofs.Filling.{length-table}
+use Rattle.loops.proofs.Filling.{length-table, table-at, fill-same}
 use Rattle.interpolation.specs.Profile.{everyEntry}
 
 every-same : (p q : ℕ → Bool) (n : ℕ) → ((k : ℕ) → k < n → p k ≡ q k) → every p n ≡ every q n
 unfolding every
 every-same p q zero h = refl
 every-same p q (suc n) h = rw (every-same p q n (λ k l. h k (omega arith)), h n (omega arith))
-
-table-same : (f g : ℕ → Float) (n : ℕ) → ((k : ℕ) → k < n → f k ≡ g k) → table f n ≡ table g n
-unfolding table
-table-same f g zero h = refl
-table-same f g (suc n) h = rw (table-same f g n (λ k l. h k (omega arith)), h n (omega arith))
-
--- only the entries below n are filled in
-pub fill-same : (f g : ℕ → Float) (n : ℕ) (old : List Float) → ((k : ℕ) → k < n → f k ≡ g k) → filled f n old ≡ filled g n old
-unfolding filled
-fill-same f g n old h = rw (table-same f g n h)
-
-table-at : (f : ℕ → Float) (n k : ℕ) → k < n → at (table f n) k ≡ f k
-unfolding table
-table-at f zero k h = absurd (omega arith)
-table-at f (suc n) k h =
-    ⊎-elim (λ e. getD-at (table f n) (f n) [] nan k (length-table f n ∙ sym e) ∙ ap f (sym e))
-    (λ l. List·getD-append (table f n) (f n ∷ []) nan k (omega (arith, length-table f n)) ∙ table-at f n k l)
-    (eq-or-lt-of-le (le-of-suc-le-suc h))
-
-pub filled-at : (f : ℕ → Float) (n : ℕ) (old : List Float) (k : ℕ) → k < n → at (filled f n old) k ≡ f k
-unfolding filled
-filled-at f n old k h = List·getD-append (table f n) (drop n old) nan k (omega (arith, length-table f n)) ∙ table-at f n k h
 
 module _ (f : ℕ → Float) (n : ℕ) (old b : List Float) (e : b ≡ filled f n old) where
   front : take n b ≡ table f n

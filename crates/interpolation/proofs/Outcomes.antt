@@ -2,7 +2,6 @@
 use Prim.Native.Nat.{ℕ, zero, suc}
 use mathlib.Core.Path.{_≡_, refl, sym, ap, _∙_}
 use mathlib.Core.List.{List}
-use lib.Ieee.{Float}
 use Rattle.loops.specs.Upto.{filled}
 use Rattle.loops.specs.Refusals.{_or_}
 use Rattle.loops.proofs.Refusals.{only-done, only-kept}
@@ -20,11 +19,11 @@ answered-refused : {A : Type 0} (done : A) (refused : ℕ → A) (number m : ℕ
 answered-refused done refused zero m e h = absurd (h e)
 answered-refused done refused (suc number) m e h = ap refused e
 
-pub refuses : {A : Type 0} {done : A} {refused : ℕ → A} {number : ℕ} {entry : ℕ → Float} {n : ℕ} {old : List Float} (m : ℕ) → m ≡ number → (m ≡ 0 → ⊥)
+pub refuses : {A E : Type 0} {done : A} {refused : ℕ → A} {number : ℕ} {entry : ℕ → E} {n : ℕ} {old : List E} (m : ℕ) → m ≡ number → (m ≡ 0 → ⊥)
     → Outcome done refused number entry n old (refused m) old
 refuses {done = done} {refused = refused} {number = number} m e h =
     record { answer = answered-refused done refused number m e h; left = sym (only-kept number _ _ (λ z. h (e ∙ z))) }
 
-pub succeeds : {A : Type 0} {done : A} {refused : ℕ → A} {number : ℕ} {entry : ℕ → Float} {n : ℕ} {old : List Float} {r : A} {new : List Float} → number ≡ 0 → r ≡ done
+pub succeeds : {A E : Type 0} {done : A} {refused : ℕ → A} {number : ℕ} {entry : ℕ → E} {n : ℕ} {old : List E} {r : A} {new : List E} → number ≡ 0 → r ≡ done
     → new ≡ filled entry n old → Outcome done refused number entry n old r new
 succeeds e a f = record { answer = rw e a; left = f ∙ sym (only-done _ _ _ e) }

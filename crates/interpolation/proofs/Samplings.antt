@@ -12,7 +12,7 @@ use lib.Ieee.{Float, lt, le}
 use lib.Ieee.Scale.{finite}
 use Rattle.loops.specs.Upto.{filled, at}
 use Rattle.loops.specs.Refusals.{unless, _or_}
-use Rattle.loops.proofs.Filling.{fill-turn}
+use Rattle.loops.proofs.Filling.{fill-turn, fill-same, filled-at}
 use Rattle.loops.proofs.Refusals.{or-none, unless-none}
 use Rattle.interpolation.specs.Profile.{zeroF, everyEntry, everyPair}
 use Rattle.interpolation.specs.Samples.{countsOf, timedNo}
@@ -22,7 +22,6 @@ use Rattle.interpolation.specs.Parts.{oneMore, Ended}
 use Rattle.interpolation.specs.declared.samples.Counts.{Counts}
 use Rattle.interpolation.specs.declared.samples.Sampled.the-variants.{Done}
 use Rattle.interpolation.proofs.Outcomes.{succeeds}
-use Rattle.interpolation.proofs.Fronts.{fill-same, filled-at}
 use Rattle.interpolation.proofs.Walks.{timed}
 
 sampled : (x : List Float) (room : ℕ) → samplesNo x room ≡ 0 → (length x ≤ 65536) × (length x ≤ room)

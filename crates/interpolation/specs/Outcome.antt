@@ -2,7 +2,6 @@
 use Prim.Native.Nat.{ℕ, zero, suc}
 use mathlib.Core.Path.{_≡_}
 use mathlib.Core.List.{List}
-use lib.Ieee.{Float}
 use Rattle.loops.specs.Upto.{filled}
 use Rattle.loops.specs.Refusals.{onlyIf}
 
@@ -12,6 +11,6 @@ answered done refused zero = done
 answered done refused (suc number) = refused (suc number)
 
 -- success writes the front of the output, entry 0 .. entry (n - 1), and no more; refusal writes nothing
-pub record Outcome {A : Type 0} (done : A) (refused : ℕ → A) (number : ℕ) (entry : ℕ → Float) (n : ℕ) (old : List Float) (r : A) (new : List Float) : Type 0 where
+pub record Outcome {A E : Type 0} (done : A) (refused : ℕ → A) (number : ℕ) (entry : ℕ → E) (n : ℕ) (old : List E) (r : A) (new : List E) : Type 0 where
   pub answer : r ≡ answered done refused number
   pub left : new ≡ onlyIf number (filled entry n old) old

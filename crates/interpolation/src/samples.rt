@@ -168,8 +168,8 @@ fn times_refusal(n: usize, t: &[f64]) -> u64
     }
 }
 
-// 11 to 15, 17, 18, 20 to 22
-pub(crate) fn refusal(s: &[f64], a: &[f64], t: &[f64]) -> u64
+// What both modes refuse: 11 to 15, 17, 18, 20 to 22.
+pub fn refusal(s: &[f64], a: &[f64], t: &[f64]) -> u64
     ensures { λ r. ⌜ r ≡ timedNo (now (s .entry)) (now (a .entry)) (now (t .entry)) ⌝ }
 {
     let number = checks::check_topp2_sa(s, a);

@@ -1,12 +1,15 @@
 -- One more turn of a loop that fills lent memory from the front.
-use mathlib.Core.Path.{_≡_, refl, sym, _∙_}
+use mathlib.Core.Path.{_≡_, refl, sym, ap, _∙_}
+use mathlib.Core.Logic.{⊎-elim}
 use mathlib.Core.List.{List, [], _∷_, _++_, append-nil}
 use Prim.Native.Nat.{ℕ, zero, suc, _+_, _<_, _≤_}
 use native.Mathlib.Numerals.{add-one}
+use native.Mathlib.Nat.{eq-or-lt-of-le, le-of-suc-le-suc}
 use native.Mathlib.Omega.{arith}
-use lib.ListN.{length, getD, set, drop, length-append, length-drop, length-set, drop-of-length-le}
-use lib.Seq.{drop-cons, set-at, append-snoc, drop-set-lt, set-set}
-use Rattle.loops.specs.Upto.{table, filled}
+use lib.ListN.{length, getD, set, drop, length-append, length-drop, length-set, drop-of-length-le, List·getD-append}
+use lib.Seq.{drop-cons, set-at, append-snoc, drop-set-lt, set-set, getD-at}
+use lib.Ieee.{Float, nan}
+use Rattle.loops.specs.Upto.{table, filled, at}
 
 pub length-table : {A : Type 0} (f : ℕ → A) (n : ℕ) → length (table f n) ≡ n
 unfolding table
@@ -44,3 +47,25 @@ length-filled f n old h = simp (length-append, length-table, length-drop) (omega
 pub fill-all : {A : Type 0} (f : ℕ → A) (n : ℕ) (old : List A) → length old ≤ n → filled f n old ≡ table f n
 unfolding filled
 fill-all f n old h = rw (drop-of-length-le old h) (append-nil (table f n))
+
+table-same : {A : Type 0} (f g : ℕ → A) (n : ℕ) → ((k : ℕ) → k < n → f k ≡ g k) → table f n ≡ table g n
+unfolding table
+table-same f g zero h = refl
+table-same f g (suc n) h = rw (table-same f g n (λ k l. h k (omega arith)), h n (omega arith))
+
+-- only the entries below n are filled in
+pub fill-same : {A : Type 0} (f g : ℕ → A) (n : ℕ) (old : List A) → ((k : ℕ) → k < n → f k ≡ g k) → filled f n old ≡ filled g n old
+unfolding filled
+fill-same f g n old h = rw (table-same f g n h)
+
+pub table-at : (f : ℕ → Float) (n k : ℕ) → k < n → at (table f n) k ≡ f k
+unfolding table
+table-at f zero k h = absurd (omega arith)
+table-at f (suc n) k h =
+    ⊎-elim (λ e. getD-at (table f n) (f n) [] nan k (length-table f n ∙ sym e) ∙ ap f (sym e))
+    (λ l. List·getD-append (table f n) (f n ∷ []) nan k (omega (arith, length-table f n)) ∙ table-at f n k l)
+    (eq-or-lt-of-le (le-of-suc-le-suc h))
+
+pub filled-at : (f : ℕ → Float) (n : ℕ) (old : List Float) (k : ℕ) → k < n → at (filled f n old) k ≡ f k
+unfolding filled
+filled-at f n old k h = List·getD-append (table f n) (drop n old) nan k (omega (arith, length-table f n)) ∙ table-at f n k h

@@ -1,7 +1,6 @@
 -- What a chain of refusals says: where it gives 0, each test in it passed.
 use mathlib.Core.Path.{_≡_, refl}
 use mathlib.Core.Bool.{Bool, true, false}
-use mathlib.Core.List.{List}
 use Prim.Native.Nat.{ℕ, zero, suc}
 use native.Mathlib.Nat.{suc-ne-zero}
 use Rattle.loops.specs.Refusals.{unless, _or_, onlyIf}
@@ -10,10 +9,10 @@ pub or-some : (n later : ℕ) → (n ≡ 0 → ⊥) → n ≡ n or later
 or-some zero later h = absurd (h refl)
 or-some (suc n) later h = refl
 
-pub only-done : {A : Type 0} (n : ℕ) (new old : List A) → n ≡ 0 → onlyIf n new old ≡ new
+pub only-done : {A : Type 0} (n : ℕ) (new old : A) → n ≡ 0 → onlyIf n new old ≡ new
 only-done n new old h = rw h
 
-pub only-kept : {A : Type 0} (n : ℕ) (new old : List A) → (n ≡ 0 → ⊥) → onlyIf n new old ≡ old
+pub only-kept : {A : Type 0} (n : ℕ) (new old : A) → (n ≡ 0 → ⊥) → onlyIf n new old ≡ old
 only-kept zero new old h = absurd (h refl)
 only-kept (suc n) new old h = refl
 
@@ -24,3 +23,7 @@ or-none (suc n) later h = absurd (suc-ne-zero n h)
 pub unless-none : (ok : Bool) (n : ℕ) → (n ≡ 0 → ⊥) → unless ok n ≡ 0 → ok ≡ true
 unless-none true n h e = refl
 unless-none false n h e = absurd (h e)
+
+pub or-assoc : (a b c : ℕ) → (a or b) or c ≡ a or (b or c)
+or-assoc zero b c = refl
+or-assoc (suc a) b c = refl

@@ -1,20 +1,18 @@
 -- What `malikoza_recover` answers: 01's number for each case of the answer, and what the four lent numbers then hold.
-use Prim.Native.Nat.{ℕ, _%_}
+use Prim.Native.Nat.{ℕ}
 use mathlib.Core.Path.{_≡_}
 use mathlib.Core.Bool.{cond}
 use mathlib.Core.List.{List}
-use lib.Dec.{eqb}
-use lib.ListN.{length}
 use lib.Ieee.{binary64, ofBits, toBits}
 use Rattle.topp2_ra.specs.Recovery.{recovered}
 use Rattle.topp2_ra.specs.declared.request.Request.{Request}
 use Rattle.topp2_ra.specs.declared.request.Answer.{Answer}
 use Rattle.topp2_ra.specs.declared.request.Answer.the-variants.{Certified, Refused}
-use Rattle.malikoza.specs.Bytes.{doublesOf}
+use Rattle.byte_lists.specs.Bytes.{inEights, doublesOf}
 
 -- 10: "a byte list of a length not divisible by eight; before all others"
 unfoldable pub answered : Request → List ℕ → Answer
-answered q rows = cond (eqb (length rows % 8) 0) (recovered q (doublesOf rows)) (Refused 10)
+answered q rows = cond (inEights rows) (recovered q (doublesOf rows)) (Refused 10)
 
 -- the number of each case: 0 where it is certified
 abbrev pub numberOf : Answer → ℕ

@@ -1,5 +1,5 @@
 // Recovery on patterns and a byte list of rows.
-use crate::bytes;
+use byte_lists::doubles;
 use number::pattern::double_of;
 use number::pattern::pattern_of;
 use topp2_ra::recovery::recover_forward_intersection;
@@ -10,21 +10,19 @@ ghost use mathlib.Core.Path.{_≡_};
 ghost use Prim.Native.Nat.{_%_};
 ghost use lib.ListN.{length};
 ghost use Rattle.topp2_ra.specs.Recovery.{recovered};
-ghost use Rattle.malikoza.specs.Bytes.{doublesOf};
+ghost use Rattle.byte_lists.specs.Bytes.{doublesOf};
 ghost use Rattle.malikoza.specs.Recover.{answered, requestOf, Told};
 
 // A list over its limit is refused without being decoded.
 fn decoded(q: Request, rows: &[u8]) -> Answer
-    requires { ⌜ length (now rows) % 8 ≡ 0 ⌝ }
     ensures { λ r. ⌜ r ≡ recovered q (doublesOf (now (rows .entry))) ⌝ }
 {
-    if 6144 < rows.len() {
+    if 768 < rows.len() / 8 {
         return Answer::Refused(1);
     }
     let mut numbers = [0.0; 768];
-    let n = rows.len() / 8;
-    bytes::decode(rows, &mut numbers[..n]);
-    recover_forward_intersection(q, &numbers[..n])
+    doubles::decode(rows, &mut numbers);
+    recover_forward_intersection(q, &numbers[..rows.len() / 8])
 }
 
 fn answer(q: Request, rows: &[u8]) -> Answer

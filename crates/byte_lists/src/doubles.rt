@@ -1,0 +1,104 @@
+// Eight bytes for each double, low byte first.
+use number::pattern::double_of;
+use number::pattern::pattern_of;
+ghost use mathlib.Core.Path.{_≡_};
+ghost use mathlib.Core.Bool.{_&&_};
+ghost use Prim.Native.Nat.{_+_, _*_, _/_, _%_, _≤_, _<_, _^_, min};
+ghost use lib.Dec.{eqb};
+ghost use lib.ListN.{length};
+ghost use Rattle.loops.specs.Upto.{at, filled};
+ghost use Rattle.byte_lists.specs.Bytes.{fourAt, wordAt, doubleAt, byteOf, fourPut, wordPut};
+
+// 10 is refused where one of three lengths is not divisible by eight.
+pub fn in_eights(a: usize, b: usize, c: usize) -> bool
+    ensures { λ r. ⌜ r ≡ eqb (a % 8) 0 && (eqb (b % 8) 0 && eqb (c % 8) 0) ⌝ }
+{
+    if a % 8 == 0 {
+        if b % 8 == 0 {
+            return c % 8 == 0;
+        }
+    }
+    false
+}
+
+fn least(a: usize, b: usize) -> usize
+    ensures { λ r. ⌜ r ≡ min a b ⌝ }
+{
+    if a < b { a } else { b }
+}
+
+// How many doubles fit in so many bytes, `most` at the most.
+pub fn room(bytes: usize, most: usize) -> usize
+    ensures { λ r. ⌜ r ≡ min (bytes / 8) most ⌝ }
+{
+    least(bytes / 8, most)
+}
+
+fn wide(x: u8) -> u64
+    ensures { λ r. ⌜ (r ≡ x) × (r < 256) ⌝ }
+{
+    x as u64
+}
+
+fn four_at(b: &[u8], i: usize) -> u64
+    requires { ⌜ i + 4 ≤ length (now b) ⌝ }
+    ensures { λ r. ⌜ (r ≡ fourAt (now (b .entry)) i) × (r < 2 ^ 32) ⌝ }
+{
+    wide(b[i]) + 0x100 * wide(b[i + 1]) + 0x1_0000 * wide(b[i + 2]) + 0x100_0000 * wide(b[i + 3])
+}
+
+fn word_at(b: &[u8], i: usize) -> u64
+    requires { ⌜ i + 8 ≤ length (now b) ⌝ }
+    ensures { λ r. ⌜ r ≡ wordAt (now (b .entry)) i ⌝ }
+{
+    four_at(b, i) + 0x1_0000_0000 * four_at(b, i + 4)
+}
+
+// The doubles of b, at the front of out, as far as both go.
+pub fn decode(b: &[u8], out: &mut [f64])
+    ensures { λ _. ⌜ now (out .exit) ≡ filled (doubleAt (now (b .entry))) (min (length (now (b .entry)) / 8) (length (now (out .entry)))) (now (out .entry)) ⌝ }
+{
+    let n = room(b.len(), out.len());
+    let mut k = 0;
+    while k < n {
+        out[k] = double_of(word_at(b, 8 * k));
+        k += 1;
+    }
+}
+
+fn low_byte(w: u64) -> u8
+    ensures { λ r. ⌜ r ≡ w % 256 ⌝ }
+{
+    (w % 256) as u8
+}
+
+// The low four bytes of w, from i on.
+fn put_four(b: &mut [u8], i: usize, w: u64)
+    requires { ⌜ i + 4 ≤ length (now b) ⌝ }
+    ensures { λ _. ⌜ now (b .exit) ≡ fourPut (now (b .entry)) i w ⌝ }
+{
+    b[i] = low_byte(w);
+    b[i + 1] = low_byte(w / 0x100);
+    b[i + 2] = low_byte(w / 0x1_0000);
+    b[i + 3] = low_byte(w / 0x100_0000);
+}
+
+fn put_word(b: &mut [u8], i: usize, w: u64)
+    requires { ⌜ i + 8 ≤ length (now b) ⌝ }
+    ensures { λ _. ⌜ now (b .exit) ≡ wordPut (now (b .entry)) i w ⌝ }
+{
+    put_four(b, i, w);
+    put_four(b, i + 4, w / 0x1_0000_0000);
+}
+
+// The first n doubles of x, at the front of out, as far as both go.
+pub fn encode(x: &[f64], n: usize, out: &mut [u8])
+    ensures { λ _. ⌜ now (out .exit) ≡ filled (byteOf (at (now (x .entry)))) (8 * min n (min (length (now (out .entry)) / 8) (length (now (x .entry))))) (now (out .entry)) ⌝ }
+{
+    let m = least(n, room(out.len(), x.len()));
+    let mut k = 0;
+    while k < m {
+        put_word(out, 8 * k, pattern_of(x[k]));
+        k += 1;
+    }
+}

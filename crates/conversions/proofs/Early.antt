@@ -1,0 +1,40 @@
+-- What t to s refuses before its own checks: the profile and its times come first.
+use Prim.Native.Nat.{ℕ, _/_, _<_}
+use mathlib.Core.Path.{_≡_, sym, _∙_}
+use mathlib.Core.Bool.{Bool}
+use mathlib.Core.List.{List}
+use native.Mathlib.Omega.{arith}
+use borrow.Author.Tests.{lt-ltb, lt-leb}
+use lib.ListN.{length}
+use lib.Ieee.{Float}
+use Rattle.interpolation.specs.Samples.{timedNo}
+use Rattle.interpolation.specs.List.{samplesNo, listNo}
+use Rattle.interpolation.specs.Grid.{gridNo}
+use Rattle.interpolation.proofs.Walks.{timed}
+use Rattle.interpolation.proofs.Outcomes.{or-stop}
+use Rattle.byte_lists.specs.Bytes.{doublesOf}
+use Rattle.conversions.specs.Stations.{lengthsNo}
+use Rattle.byte_lists.proofs.Fronts.{length-doubles}
+use Rattle.conversions.proofs.Replies.{lengths-stop}
+
+-- 11 and 12
+pub shape-timed : (s a : List ℕ) (t : List Float) (m : ℕ) → m ≡ lengthsNo (length s / 8) (length a / 8) → (m ≡ 0 → ⊥) → m ≡ timedNo (doublesOf s) (doublesOf a) t
+unfolding timedNo
+shape-timed s a t m e h = or-stop m _ _ (lengths-stop s a m e h) h
+
+-- 20: times of another number than stations are always refused
+pub times-refused : (s a t : List ℕ) (m : ℕ) → m ≡ timedNo (doublesOf s) (doublesOf a) (doublesOf t) → (length t / 8 ≡ length s / 8 → ⊥) → m ≡ 0 → ⊥
+times-refused s a t m e h z = h (sym (length-doubles t) ∙ timed (doublesOf s) (doublesOf a) (doublesOf t) (sym e ∙ z) .1 ∙ length-doubles s)
+
+pub timed-listed : (s a t x : List Float) (room m : ℕ) → m ≡ timedNo s a t → (m ≡ 0 → ⊥) → m ≡ listNo s a t x room
+unfolding listNo
+timed-listed s a t x room m e h = or-stop m _ _ e h
+
+-- 28: more samples than are decoded
+pub many-listed : (s a t x : List Float) (room : ℕ) → timedNo s a t ≡ 0 → 65536 < length x → 28 ≡ listNo s a t x room
+unfolding listNo samplesNo
+many-listed s a t x room z h = rw (z, lt-ltb 0 (length x) (omega arith), lt-leb (length x) 65536 h)
+
+pub timed-gridded : (s a t : List Float) (t0 dt : Float) (final : Bool) (room m : ℕ) → m ≡ timedNo s a t → (m ≡ 0 → ⊥) → m ≡ gridNo s a t t0 dt final room
+unfolding gridNo
+timed-gridded s a t t0 dt final room m e h = or-stop m _ _ e h

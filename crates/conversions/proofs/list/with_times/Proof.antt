@@ -1,0 +1,36 @@
+use Prim.Native.Nat.{_<_}
+use mathlib.Core.Path.{sym, _∙_}
+use Rattle.interpolation.proofs.Outcomes.{refuses}
+use native.Mathlib.Omega.{arith}
+use lib.ListN.{length}
+use Rattle.byte_lists.specs.Bytes.{doublesOf}
+use Rattle.byte_lists.proofs.Fronts.{length-doubles}
+use Rattle.conversions.proofs.Early.{timed-listed, many-listed}
+use borrow.Author.Needs.{needs}
+use Rattle.conversions.proofs.list.with_times.Statement.{statement}
+use Rattle.conversions.proofs.list.with_times.Tie as tie
+
+decoded-requires : tie.Need-decoded-requires
+decoded-requires c κs = search needs
+
+same-length : tie.Need-same-length
+same-length c = search needs
+
+returns : tie.Need-returns
+returns c = search needs
+
+refusal-requires : tie.Need-refusal-requires
+refusal-requires c κs = search needs
+
+returns-2 : tie.Need-returns-2
+returns-2 c = let a = c .before .before .before .before .before .before .before .before .args in
+    let z = sym (c .before .refusal .ensures) ∙ c .if2 .taken in
+    let many : 65536 < length (doublesOf (a .x .now)) = omega (arith, length-doubles (a .x .now), c .before .before .if1 .left) in
+    refuses 28 (many-listed (doublesOf (a .s .now)) (doublesOf (a .a .now)) (doublesOf (a .t .now)) (doublesOf (a .x .now)) _ z many) (omega arith)
+
+returns-3 : tie.Need-returns-3
+returns-3 c = refuses _ (timed-listed _ _ _ _ _ _ (c .before .refusal .ensures) (c .if2 .left)) (c .if2 .left)
+
+pub with-times-spec : {M : Type 1} → statement M
+with-times-spec =
+    tie.close (tie.spec decoded-requires same-length returns refusal-requires returns-2 returns-3)

@@ -1,0 +1,8 @@
+// Stations, speeds and times over byte lists: document 01's operations as the C entries give them, 10 before all others. A list over its limit is refused
+// without being decoded.
+pub mod grid;
+pub mod list;
+mod profile;
+mod samples;
+pub mod slopes;
+pub mod times;

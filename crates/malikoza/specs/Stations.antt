@@ -1,0 +1,52 @@
+-- What the t to s entries reply: 01's number and counts for each case of the answer, and the output.
+use Prim.Native.Nat.{ℕ, _*_}
+use mathlib.Core.Path.{_≡_}
+use mathlib.Core.Bool.{Bool, not}
+use mathlib.Core.List.{List}
+use lib.Dec.{eqb}
+use lib.Ieee.{Float}
+use Rattle.loops.specs.Upto.{filled}
+use Rattle.loops.specs.Refusals.{onlyIf}
+use Rattle.interpolation.specs.Outcome.{answered}
+use Rattle.interpolation.specs.declared.samples.Counts.{Counts}
+use Rattle.interpolation.specs.declared.samples.Sampled.{Sampled}
+use Rattle.interpolation.specs.declared.samples.Sampled.the-variants.{Done, Refused}
+use Rattle.byte_lists.specs.Bytes.{byteOf}
+
+-- 01's number and values for each case of the answer: a refusal leaves what there was
+abbrev pub sampledNumber : Sampled → ℕ
+sampledNumber (Done c) = 0
+sampledNumber (Refused k) = k
+
+abbrev pub beforeOf : Sampled → ℕ → ℕ
+beforeOf (Done c) old = c .before
+beforeOf (Refused k) old = old
+
+abbrev pub insideOf : Sampled → ℕ → ℕ
+insideOf (Done c) old = c .inside
+insideOf (Refused k) old = old
+
+abbrev pub pastOf : Sampled → ℕ → ℕ
+pastOf (Done c) old = c .past
+pastOf (Refused k) old = old
+
+abbrev pub writtenOf : Sampled → ℕ → ℕ
+writtenOf (Done c) old = c .written
+writtenOf (Refused k) old = old
+
+-- the reply to an answer: the number, and each lent count before and after
+pub record Counted (a : Sampled) (number before₀ before inside₀ inside past₀ past written₀ written : ℕ) : Type 0 where
+  pub number-is : number ≡ sampledNumber a
+  pub before-is : before ≡ beforeOf a before₀
+  pub inside-is : inside ≡ insideOf a inside₀
+  pub past-is : past ≡ pastOf a past₀
+  pub written-is : written ≡ writtenOf a written₀
+
+-- what a call leaves: its number and counts, and the bytes of the first n entries at the front of the output
+pub record Tallied (done : Counts) (refusal : ℕ) (entry : ℕ → Float) (n : ℕ) (old : List ℕ) (number before₀ before inside₀ inside past₀ past written₀ written : ℕ) (new : List ℕ) : Type 0 where
+  pub counted : Counted (answered (Done done) Refused refusal) number before₀ before inside₀ inside past₀ past written₀ written
+  pub left : new ≡ onlyIf refusal (filled (byteOf entry) (8 * n) old) old
+
+-- "with_final: 0 is no, anything else is yes"
+abbrev pub yes : ℕ → Bool
+yes n = not (eqb n 0)

@@ -1,0 +1,90 @@
+// Stations, speeds and times on byte lists. Each returns 0, or the refusal number; a refusal writes nothing.
+use conversions::grid::t_to_s_grid;
+use conversions::list::t_to_s_list;
+use conversions::slopes::a_to_b;
+use conversions::times::s_to_t;
+use interpolation::samples::Sampled;
+use number::pattern::double_of;
+ghost use Prim.Native.Nat.{_-_};
+ghost use lib.ListN.{length};
+ghost use lib.Ieee.{binary64, ofBits};
+ghost use Rattle.interpolation.specs.Slopes.{slope};
+ghost use Rattle.interpolation.specs.Times.{timeAt};
+ghost use Rattle.interpolation.specs.Grid.{gridEntry, gridEntries};
+ghost use Rattle.byte_lists.specs.Bytes.{doublesOf};
+ghost use Rattle.conversions.specs.Stations.{Replied, slopesByteNo, timesByteNo, listByteNo, listCounts, listStation, gridByteNo, gridCounts};
+ghost use Rattle.malikoza.specs.Stations.{Counted, Tallied, yes};
+
+// One entry fewer than stations.
+#[no_mangle]
+pub extern "C" fn malikoza_a_to_b(s: &[u8], a: &[u8], out: &mut [u8]) -> u64
+    ensures { λ r. ⌜ Replied (slopesByteNo (now (s .entry)) (now (a .entry)) (now (out .entry))) (slope (doublesOf (now (s .entry))) (doublesOf (now (a .entry)))) (length (doublesOf (now (s .entry))) - 1) (now (out .entry)) r (now (out .exit)) ⌝ }
+{
+    a_to_b(s, a, out)
+}
+
+// One entry for each station.
+#[no_mangle]
+pub extern "C" fn malikoza_s_to_t(s: &[u8], a: &[u8], t0: u64, out: &mut [u8]) -> u64
+    ensures { λ r. ⌜ Replied (timesByteNo (now (s .entry)) (now (a .entry)) (ofBits binary64 t0) (now (out .entry))) (timeAt (doublesOf (now (s .entry))) (doublesOf (now (a .entry))) (ofBits binary64 t0)) (length (doublesOf (now (s .entry)))) (now (out .entry)) r (now (out .exit)) ⌝ }
+{
+    s_to_t(s, a, double_of(t0), out)
+}
+
+// The number of an answer; its counts go to the lent numbers.
+fn tell(a: Sampled, before: &mut u64, inside: &mut u64, past: &mut u64, written: &mut u64) -> u64
+    ensures { λ r. ⌜ Counted a r (now (before .entry)) (now (before .exit)) (now (inside .entry)) (now (inside .exit)) (now (past .entry)) (now (past .exit)) (now (written .entry)) (now (written .exit)) ⌝ }
+{
+    match a {
+        Sampled::Done(c) => {
+            *before = c.before as u64;
+            *inside = c.inside as u64;
+            *past = c.past as u64;
+            *written = c.written as u64;
+            0
+        }
+        Sampled::Refused(k) => k,
+    }
+}
+
+// One entry for each sample.
+#[no_mangle]
+pub extern "C" fn malikoza_t_to_s_list(
+    s: &[u8],
+    a: &[u8],
+    t: &[u8],
+    x: &[u8],
+    out: &mut [u8],
+    before: &mut u64,
+    inside: &mut u64,
+    past: &mut u64,
+    written: &mut u64,
+) -> u64
+    ensures { λ r. ⌜ Tallied (listCounts (now (t .entry)) (now (x .entry))) (listByteNo (now (s .entry)) (now (a .entry)) (now (t .entry)) (now (x .entry)) (now (out .entry))) (listStation (now (s .entry)) (now (a .entry)) (now (t .entry)) (now (x .entry))) (length (doublesOf (now (x .entry)))) (now (out .entry)) r
+        (now (before .entry)) (now (before .exit)) (now (inside .entry)) (now (inside .exit)) (now (past .entry)) (now (past .exit)) (now (written .entry)) (now (written .exit)) (now (out .exit)) ⌝ }
+{
+    let found = t_to_s_list(s, a, t, x, out);
+    tell(found, before, inside, past, written)
+}
+
+// One entry for each time of the grid, and the last station where it is asked for and due.
+#[no_mangle]
+pub extern "C" fn malikoza_t_to_s_grid(
+    s: &[u8],
+    a: &[u8],
+    t: &[u8],
+    t0: u64,
+    dt: u64,
+    with_final: u8,
+    out: &mut [u8],
+    before: &mut u64,
+    inside: &mut u64,
+    past: &mut u64,
+    written: &mut u64,
+) -> u64
+    ensures { λ r. ⌜ Tallied (gridCounts (now (s .entry)) (now (a .entry)) (now (t .entry)) (ofBits binary64 t0) (ofBits binary64 dt) (yes «with_final»)) (gridByteNo (now (s .entry)) (now (a .entry)) (now (t .entry)) (ofBits binary64 t0) (ofBits binary64 dt) (yes «with_final») (now (out .entry))) (gridEntry (doublesOf (now (s .entry))) (doublesOf (now (a .entry))) (doublesOf (now (t .entry))) (ofBits binary64 t0) (ofBits binary64 dt)) (gridEntries (doublesOf (now (s .entry))) (doublesOf (now (a .entry))) (doublesOf (now (t .entry))) (ofBits binary64 t0) (ofBits binary64 dt) (yes «with_final»)) (now (out .entry)) r
+        (now (before .entry)) (now (before .exit)) (now (inside .entry)) (now (inside .exit)) (now (past .entry)) (now (past .exit)) (now (written .entry)) (now (written .exit)) (now (out .exit)) ⌝ }
+{
+    let found = t_to_s_grid(s, a, t, double_of(t0), double_of(dt), with_final != 0, out);
+    tell(found, before, inside, past, written)
+}
