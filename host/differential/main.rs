@@ -1,0 +1,95 @@
+//! The library beside the Rust original and document 01's rules.
+//!
+//! `host/run differential [NAME=VALUE ..]` calls the library through its C entries and compares everything each call leaves behind: the refusal number, every
+//! double by pattern, every count, and every byte that was written or must not have been. It prints how often each number and each way of answering came, and
+//! last "N compared, M differ"; it fails if M is not 0. A difference is shrunk and printed in full.
+//!
+//! | argument | meaning |
+//! |---|---|
+//! | minutes=10 | how long to run, if no count is given |
+//! | leaves=N recoveries=N conversions=N | exact counts in place of a time; what is not named is left out |
+//! | fixed=no | leaves out the short inputs and the limits, which are the same in every run |
+//! | seed=N | what the generated inputs follow from |
+//! | threads=1 | they change the time only, not what is tried (with counts) |
+//! | broken=NAME | puts a slip into the expected side: the run must then find differences; `broken=list` names them |
+//! | broken=each | tries each slip, a minute at most, and fails if the comparison does not notice one |
+
+mod case;
+mod exact;
+mod fixed;
+mod judge;
+mod leaves;
+mod library;
+#[path = "../original/mod.rs"]
+mod original;
+mod profiles;
+mod random;
+mod recovery_rules;
+mod requests;
+mod run;
+mod shrink;
+mod slips;
+mod tally;
+mod timing_rules;
+
+use run::Plan;
+use slips::Slip;
+
+fn number(value: &str) -> u64 {
+    value.parse().unwrap_or_else(|_| fail(&format!("{value} is no whole number")))
+}
+
+fn fail(message: &str) -> ! {
+    eprintln!("{message}");
+    std::process::exit(2)
+}
+
+fn list_slips() -> ! {
+    for (name, _, what) in Slip::ALL {
+        println!("{name}: {what}");
+    }
+    std::process::exit(0)
+}
+
+/// Whether the comparison notices each slip.
+fn try_each_slip(plan: &Plan) -> ! {
+    let mut missed = 0;
+    for (name, slip, _) in Slip::ALL {
+        let tally = run::run(&Plan { slip, quiet: true, seconds: 60.0, ..plan.clone() });
+        println!("{name}: {} after {} compared", if tally.differ > 0 { "noticed" } else { "NOT NOTICED" }, tally.compared());
+        missed += i32::from(tally.differ == 0);
+    }
+    std::process::exit(missed)
+}
+
+fn plan() -> Plan {
+    let mut plan = Plan::default();
+    for argument in std::env::args().skip(1) {
+        let (name, value) = argument.split_once('=').unwrap_or_else(|| fail(&format!("{argument} is not NAME=VALUE")));
+        match (name, value) {
+            ("minutes", n) => plan.seconds = 60.0 * n.parse::<f64>().unwrap_or_else(|_| fail("minutes=NUMBER")),
+            ("leaves", n) => plan.counts.get_or_insert_default()[0] = number(n),
+            ("recoveries", n) => plan.counts.get_or_insert_default()[1] = number(n),
+            ("conversions", n) => plan.counts.get_or_insert_default()[2] = number(n),
+            ("fixed", "no") => plan.fixed = false,
+            ("seed", n) => plan.seed = number(n),
+            ("threads", n) => plan.threads = number(n).max(1),
+            ("broken", "list") => list_slips(),
+            ("broken", "each") => plan.each_slip = true,
+            ("broken", name) => plan.slip = Slip::named(name).unwrap_or_else(|| fail("no such slip; broken=list names them")),
+            _ => fail(&format!("{argument} is not understood")),
+        }
+    }
+    plan
+}
+
+fn main() {
+    let plan = plan();
+    if plan.each_slip {
+        try_each_slip(&plan);
+    }
+    println!("seed {}{}", plan.seed, plan.slip.told());
+    let tally = run::run(&plan);
+    tally.print();
+    std::process::exit(i32::from(tally.differ > 0));
+}

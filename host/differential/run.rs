@@ -1,0 +1,191 @@
+//! Goes through the plan of a run, in one or more threads.
+
+use crate::case::{Case, Entry};
+use crate::fixed;
+use crate::judge;
+use crate::leaves;
+use crate::profiles;
+use crate::random::Random;
+use crate::requests;
+use crate::shrink;
+use crate::slips::Slip;
+use crate::tally::Tally;
+use std::sync::atomic::{AtomicU64, Ordering};
+use std::time::Instant;
+
+/// A run stops after so many differences.
+const ENOUGH: u64 = 3;
+
+/// As much stack as a program's first thread has: the entries keep what they decode there.
+const STACK: usize = 8 << 20;
+
+#[derive(Clone)]
+pub struct Plan {
+    pub seconds: f64,
+    /// Exact counts of leaf calls, recoveries and conversions, in place of a time.
+    pub counts: Option<[u64; 3]>,
+    pub fixed: bool,
+    pub seed: u64,
+    pub threads: u64,
+    pub slip: Slip,
+    /// Whether each slip is to be tried in its turn.
+    pub each_slip: bool,
+    /// Whether differences are only counted.
+    pub quiet: bool,
+}
+
+impl Default for Plan {
+    fn default() -> Plan {
+        Plan { seconds: 600.0, counts: None, fixed: true, seed: 20_261_115, threads: 1, slip: Slip::None, each_slip: false, quiet: false }
+    }
+}
+
+/// One of the three parts of what is generated: leaf calls, recoveries, conversions.
+struct Part {
+    /// The cases of one block, all from one generator.
+    block: u64,
+    /// Its share of a run's time.
+    share: f64,
+}
+
+const PARTS: [Part; 3] = [Part { block: 8000, share: 0.25 }, Part { block: 1000, share: 0.4 }, Part { block: 400, share: 0.35 }];
+
+pub fn run(plan: &Plan) -> Tally {
+    let found = AtomicU64::new(0);
+    let mut total = Tally::default();
+    std::thread::scope(|scope| {
+        let start = |thread| {
+            let worker = Worker { plan, thread, found: &found, tally: Tally::default(), began: Instant::now() };
+            std::thread::Builder::new().stack_size(STACK).spawn_scoped(scope, move || worker.work()).expect("a thread")
+        };
+        let workers: Vec<_> = (0..plan.threads).map(start).collect();
+        for worker in workers {
+            total.add(&worker.join().expect("a worker that ends"));
+        }
+    });
+    total
+}
+
+struct Worker<'a> {
+    plan: &'a Plan,
+    thread: u64,
+    /// Differences found so far, by all threads.
+    found: &'a AtomicU64,
+    tally: Tally,
+    began: Instant,
+}
+
+impl Worker<'_> {
+    fn enough_found(&self) -> bool {
+        self.found.load(Ordering::Relaxed) >= ENOUGH
+    }
+
+    fn work(mut self) -> Tally {
+        if self.plan.fixed {
+            self.fixed();
+        }
+        match self.plan.counts {
+            Some(counts) => self.counted(counts),
+            None => self.timed(),
+        }
+        self.tally
+    }
+
+    /// This thread's part of what is numbered 0, 1, 2 ..
+    fn is_mine(&self, number: u64) -> bool {
+        number % self.plan.threads == self.thread
+    }
+
+    /// What every run tries.
+    fn fixed(&mut self) {
+        for leaf in Entry::LEAVES {
+            let mut i = self.thread;
+            while let (false, Some(patterns)) = (self.enough_found(), fixed::short_leaf(leaf, i)) {
+                self.compare_leaf(leaf, patterns);
+                i += self.plan.threads;
+            }
+        }
+        for (i, case) in fixed::limits().iter().enumerate() {
+            if self.is_mine(i as u64) && !self.enough_found() {
+                self.compare(case);
+            }
+        }
+        for make in fixed::SHORT {
+            let mut i = self.thread;
+            while let (false, Some(case)) = (self.enough_found(), fixed::short(make, i)) {
+                self.compare(&case);
+                i += self.plan.threads;
+            }
+        }
+    }
+
+    fn counted(&mut self, counts: [u64; 3]) {
+        for (part, count) in counts.into_iter().enumerate() {
+            let size = PARTS[part].block;
+            let mut block = self.thread;
+            while block * size < count {
+                self.block(part, block, size.min(count - block * size));
+                block += self.plan.threads;
+            }
+        }
+    }
+
+    /// Blocks in turn until the time is up, always of the part that is furthest behind its share.
+    fn timed(&mut self) {
+        let mut spent = [0.0; 3];
+        let mut blocks = [self.thread; 3];
+        while self.began.elapsed().as_secs_f64() < self.plan.seconds && !self.enough_found() {
+            let behind = |part: &usize| spent[*part] / PARTS[*part].share;
+            let part = (0..3).min_by(|p, q| behind(p).total_cmp(&behind(q))).expect("three parts");
+            let start = Instant::now();
+            self.block(part, blocks[part], PARTS[part].block);
+            spent[part] += start.elapsed().as_secs_f64();
+            blocks[part] += self.plan.threads;
+        }
+    }
+
+    /// The cases of one block: they follow from the seed, the part and the block's number.
+    fn block(&mut self, part: usize, block: u64, count: u64) {
+        let mut random = Random::new(self.plan.seed, part as u64, block);
+        for i in 0..count {
+            if self.enough_found() {
+                return;
+            }
+            match part {
+                0 => {
+                    let leaf = Entry::LEAVES[(i % 8) as usize];
+                    self.compare_leaf(leaf, leaves::patterns(leaf, &mut random));
+                }
+                1 => self.compare(&requests::case(&mut random)),
+                _ => self.compare(&profiles::case(&mut random)),
+            }
+        }
+    }
+
+    fn compare_leaf(&mut self, leaf: Entry, patterns: [u64; 3]) {
+        self.tally.leaf(leaf);
+        if !leaves::is_right(leaf, patterns, self.plan.slip) {
+            self.report(&leaves::case(leaf, patterns));
+        }
+    }
+
+    fn compare(&mut self, case: &Case) {
+        let compared = judge::compared(case, self.plan.slip);
+        self.tally.call(case.entry, &compared);
+        if compared.difference.is_some() {
+            self.report(case);
+        }
+    }
+
+    /// Counts a difference, and prints the smallest case that shrinking leads to.
+    fn report(&mut self, case: &Case) {
+        self.tally.differ += 1;
+        let found_before = self.found.fetch_add(1, Ordering::Relaxed);
+        if found_before >= ENOUGH || self.plan.quiet {
+            return;
+        }
+        let slip = self.plan.slip;
+        let smallest = shrink::smallest(case, |case| judge::differs(case, slip));
+        println!("DIFFERS: {}\n{}", smallest.described(), judge::sides(&smallest, slip));
+    }
+}
