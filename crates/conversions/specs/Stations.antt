@@ -1,5 +1,5 @@
 -- What the entries for stations, speeds and times answer and leave: the plain operations on the doubles of the byte lists, 10 before all others.
-use Prim.Native.Nat.{ℕ, _*_, _/_}
+use Prim.Native.Nat.{ℕ, _*_, _-_, _/_}
 use mathlib.Core.Path.{_≡_}
 use mathlib.Core.Bool.{Bool, _&&_}
 use mathlib.Core.List.{List}
@@ -8,12 +8,12 @@ use lib.ListN.{length}
 use lib.Ieee.{Float}
 use Rattle.loops.specs.Upto.{filled, at}
 use Rattle.loops.specs.Refusals.{unless, _or_, onlyIf}
-use Rattle.interpolation.specs.Slopes.{slopesNo}
-use Rattle.interpolation.specs.Times.{timesNo}
+use Rattle.interpolation.specs.Slopes.{slope, slopesNo}
+use Rattle.interpolation.specs.Times.{timeAt, timesNo}
 use Rattle.interpolation.specs.Outcome.{Outcome}
 use Rattle.interpolation.specs.Samples.{stationAt, countsOf}
 use Rattle.interpolation.specs.List.{listNo}
-use Rattle.interpolation.specs.Grid.{gridTime, gridSize, gridNo, gridEntries}
+use Rattle.interpolation.specs.Grid.{gridTime, gridSize, gridNo, gridEntry, gridEntries}
 use Rattle.interpolation.specs.declared.slopes.Sloped.{Sloped}
 use Rattle.interpolation.specs.declared.slopes.Sloped.the-variants as sloped
 use Rattle.interpolation.specs.declared.times.Timed.{Timed}
@@ -37,11 +37,20 @@ abbrev pub timedNumber : Timed → ℕ
 timedNumber (timed.Done last) = 0
 timedNumber (timed.Refused k) = k
 
+-- ---- a to b
+-- one entry fewer than stations
+abbrev pub SlopesReplied : List ℕ → List ℕ → ℕ → List ℕ → ℕ → List ℕ → Type 0
+SlopesReplied s a number = Replied number (slope (doublesOf s) (doublesOf a)) (length (doublesOf s) - 1)
+
 -- 10, 11 to 15, 29
 abbrev pub slopesByteNo : List ℕ → List ℕ → List ℕ → ℕ
 slopesByteNo s a out =
     unless (inEights s && (inEights a && inEights out)) 10
     or slopesNo (doublesOf s) (doublesOf a) (length out / 8)
+
+-- ---- s to t
+abbrev pub TimesReplied : List ℕ → List ℕ → Float → ℕ → List ℕ → ℕ → List ℕ → Type 0
+TimesReplied s a t0 number = Replied number (timeAt (doublesOf s) (doublesOf a) t0) (length (doublesOf s))
 
 -- 10, 11 to 18, 29, 19
 abbrev pub timesByteNo : List ℕ → List ℕ → Float → List ℕ → ℕ
@@ -65,6 +74,9 @@ listCounts t x = countsOf (doublesOf t) (at (doublesOf x)) (length (doublesOf x)
 abbrev pub listStation : List ℕ → List ℕ → List ℕ → List ℕ → ℕ → Float
 listStation s a t x j = stationAt (doublesOf s) (doublesOf a) (doublesOf t) (at (doublesOf x) j)
 
+abbrev pub ListAnswered : List ℕ → List ℕ → List ℕ → List ℕ → ℕ → List ℕ → Sampled → List ℕ → Type 0
+ListAnswered s a t x number = Answered (listCounts t x) number (listStation s a t x) (length (doublesOf x))
+
 -- 10, 11 to 15, 17, 18, 20 to 22, 16, 23, 24, 28, 29
 abbrev pub gridByteNo : List ℕ → List ℕ → List ℕ → Float → Float → Bool → List ℕ → ℕ
 gridByteNo s a t t0 dt final out =
@@ -74,6 +86,11 @@ gridByteNo s a t t0 dt final out =
 abbrev pub gridCounts : List ℕ → List ℕ → List ℕ → Float → Float → Bool → Counts
 gridCounts s a t t0 dt final =
     countsOf (doublesOf t) (gridTime t0 dt) (gridSize (doublesOf t) t0 dt) (gridEntries (doublesOf s) (doublesOf a) (doublesOf t) t0 dt final)
+
+abbrev pub GridAnswered : List ℕ → List ℕ → List ℕ → Float → Float → Bool → ℕ → List ℕ → Sampled → List ℕ → Type 0
+GridAnswered s a t t0 dt final number =
+    Answered (gridCounts s a t t0 dt final) number (gridEntry (doublesOf s) (doublesOf a) (doublesOf t) t0 dt)
+    (gridEntries (doublesOf s) (doublesOf a) (doublesOf t) t0 dt final)
 
 -- ---- cited by inner functions alone
 -- 11 and 12, of n stations and m speeds

@@ -9,7 +9,7 @@ ghost use lib.ListN.{length};
 ghost use Rattle.interpolation.specs.Samples.{countsOf};
 ghost use Rattle.interpolation.specs.Grid.{gridTime, gridSize, gridNo, gridEntry, gridEntries};
 ghost use Rattle.byte_lists.specs.Bytes.{doublesOf};
-ghost use Rattle.conversions.specs.Stations.{Answered, gridByteNo, gridCounts};
+ghost use Rattle.conversions.specs.Stations.{Answered, GridAnswered, gridByteNo};
 
 // Worked out aside, then written as bytes.
 fn stations(
@@ -34,7 +34,7 @@ fn stations(
 
 fn decoded(s: &[u8], a: &[u8], t: &[u8], t0: f64, dt: f64, end: bool, out: &mut [u8]) -> Sampled
     requires { ⌜ (length (now s) / 8 ≤ 4096) × (length (now a) / 8 ≤ 4096) × (length (now t) / 8 ≤ 4096) ⌝ }
-    ensures { λ r. ⌜ Answered (gridCounts (now (s .entry)) (now (a .entry)) (now (t .entry)) t0 dt end) (gridNo (doublesOf (now (s .entry))) (doublesOf (now (a .entry))) (doublesOf (now (t .entry))) t0 dt end (length (now (out .entry)) / 8)) (gridEntry (doublesOf (now (s .entry))) (doublesOf (now (a .entry))) (doublesOf (now (t .entry))) t0 dt) (gridEntries (doublesOf (now (s .entry))) (doublesOf (now (a .entry))) (doublesOf (now (t .entry))) t0 dt end) (now (out .entry)) r (now (out .exit)) ⌝ }
+    ensures { λ r. ⌜ GridAnswered (now (s .entry)) (now (a .entry)) (now (t .entry)) t0 dt end (gridNo (doublesOf (now (s .entry))) (doublesOf (now (a .entry))) (doublesOf (now (t .entry))) t0 dt end (length (now (out .entry)) / 8)) (now (out .entry)) r (now (out .exit)) ⌝ }
 {
     let mut profile = [0.0; 4096];
     let mut speeds = [0.0; 4096];
@@ -65,7 +65,7 @@ fn with_profile(
     out: &mut [u8],
 ) -> Sampled
     requires { ⌜ (length (now s) / 8 ≤ 4096) × (length (now a) / 8 ≤ 4096) × (2 ≤ length (now s) / 8) ⌝ }
-    ensures { λ r. ⌜ Answered (gridCounts (now (s .entry)) (now (a .entry)) (now (t .entry)) t0 dt end) (gridNo (doublesOf (now (s .entry))) (doublesOf (now (a .entry))) (doublesOf (now (t .entry))) t0 dt end (length (now (out .entry)) / 8)) (gridEntry (doublesOf (now (s .entry))) (doublesOf (now (a .entry))) (doublesOf (now (t .entry))) t0 dt) (gridEntries (doublesOf (now (s .entry))) (doublesOf (now (a .entry))) (doublesOf (now (t .entry))) t0 dt end) (now (out .entry)) r (now (out .exit)) ⌝ }
+    ensures { λ r. ⌜ GridAnswered (now (s .entry)) (now (a .entry)) (now (t .entry)) t0 dt end (gridNo (doublesOf (now (s .entry))) (doublesOf (now (a .entry))) (doublesOf (now (t .entry))) t0 dt end (length (now (out .entry)) / 8)) (now (out .entry)) r (now (out .exit)) ⌝ }
 {
     if t.len() / 8 == s.len() / 8 {
         return decoded(s, a, t, t0, dt, end, out);
@@ -83,7 +83,7 @@ pub fn t_to_s_grid(
     end: bool,
     out: &mut [u8],
 ) -> Sampled
-    ensures { λ r. ⌜ Answered (gridCounts (now (s .entry)) (now (a .entry)) (now (t .entry)) t0 dt end) (gridByteNo (now (s .entry)) (now (a .entry)) (now (t .entry)) t0 dt end (now (out .entry))) (gridEntry (doublesOf (now (s .entry))) (doublesOf (now (a .entry))) (doublesOf (now (t .entry))) t0 dt) (gridEntries (doublesOf (now (s .entry))) (doublesOf (now (a .entry))) (doublesOf (now (t .entry))) t0 dt end) (now (out .entry)) r (now (out .exit)) ⌝ }
+    ensures { λ r. ⌜ GridAnswered (now (s .entry)) (now (a .entry)) (now (t .entry)) t0 dt end (gridByteNo (now (s .entry)) (now (a .entry)) (now (t .entry)) t0 dt end (now (out .entry))) (now (out .entry)) r (now (out .exit)) ⌝ }
 {
     if doubles::in_eights(s.len(), a.len(), out.len()) {
         if t.len() % 8 == 0 {

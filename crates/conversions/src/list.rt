@@ -10,7 +10,7 @@ ghost use Rattle.loops.specs.Upto.{at};
 ghost use Rattle.interpolation.specs.Samples.{stationAt, countsOf};
 ghost use Rattle.interpolation.specs.List.{listNo};
 ghost use Rattle.byte_lists.specs.Bytes.{doublesOf};
-ghost use Rattle.conversions.specs.Stations.{Answered, listByteNo, listCounts, listStation};
+ghost use Rattle.conversions.specs.Stations.{Answered, ListAnswered, listByteNo};
 
 // Worked out aside, then written as bytes.
 fn stations(
@@ -33,7 +33,7 @@ fn stations(
 
 fn decoded(s: &[u8], a: &[u8], t: &[u8], x: &[u8], out: &mut [u8]) -> Sampled
     requires { ⌜ (length (now s) / 8 ≤ 4096) × (length (now a) / 8 ≤ 4096) × (length (now t) / 8 ≤ 4096) × (length (now x) / 8 ≤ 65536) ⌝ }
-    ensures { λ r. ⌜ Answered (listCounts (now (t .entry)) (now (x .entry))) (listNo (doublesOf (now (s .entry))) (doublesOf (now (a .entry))) (doublesOf (now (t .entry))) (doublesOf (now (x .entry))) (length (now (out .entry)) / 8)) (listStation (now (s .entry)) (now (a .entry)) (now (t .entry)) (now (x .entry))) (length (doublesOf (now (x .entry)))) (now (out .entry)) r (now (out .exit)) ⌝ }
+    ensures { λ r. ⌜ ListAnswered (now (s .entry)) (now (a .entry)) (now (t .entry)) (now (x .entry)) (listNo (doublesOf (now (s .entry))) (doublesOf (now (a .entry))) (doublesOf (now (t .entry))) (doublesOf (now (x .entry))) (length (now (out .entry)) / 8)) (now (out .entry)) r (now (out .exit)) ⌝ }
 {
     let mut profile = [0.0; 4096];
     let mut speeds = [0.0; 4096];
@@ -57,7 +57,7 @@ fn decoded(s: &[u8], a: &[u8], t: &[u8], x: &[u8], out: &mut [u8]) -> Sampled
 // The profile and its times are in their limits. Samples over theirs are not decoded: 28, but where the profile or its times are refused before.
 fn with_times(s: &[u8], a: &[u8], t: &[u8], x: &[u8], out: &mut [u8]) -> Sampled
     requires { ⌜ (length (now s) / 8 ≤ 4096) × (length (now a) / 8 ≤ 4096) × (2 ≤ length (now s) / 8) × (length (now t) / 8 ≤ 4096) ⌝ }
-    ensures { λ r. ⌜ Answered (listCounts (now (t .entry)) (now (x .entry))) (listNo (doublesOf (now (s .entry))) (doublesOf (now (a .entry))) (doublesOf (now (t .entry))) (doublesOf (now (x .entry))) (length (now (out .entry)) / 8)) (listStation (now (s .entry)) (now (a .entry)) (now (t .entry)) (now (x .entry))) (length (doublesOf (now (x .entry)))) (now (out .entry)) r (now (out .exit)) ⌝ }
+    ensures { λ r. ⌜ ListAnswered (now (s .entry)) (now (a .entry)) (now (t .entry)) (now (x .entry)) (listNo (doublesOf (now (s .entry))) (doublesOf (now (a .entry))) (doublesOf (now (t .entry))) (doublesOf (now (x .entry))) (length (now (out .entry)) / 8)) (now (out .entry)) r (now (out .exit)) ⌝ }
 {
     if x.len() / 8 <= 65536 {
         return decoded(s, a, t, x, out);
@@ -71,7 +71,7 @@ fn with_times(s: &[u8], a: &[u8], t: &[u8], x: &[u8], out: &mut [u8]) -> Sampled
 
 fn with_profile(s: &[u8], a: &[u8], t: &[u8], x: &[u8], out: &mut [u8]) -> Sampled
     requires { ⌜ (length (now s) / 8 ≤ 4096) × (length (now a) / 8 ≤ 4096) × (2 ≤ length (now s) / 8) ⌝ }
-    ensures { λ r. ⌜ Answered (listCounts (now (t .entry)) (now (x .entry))) (listNo (doublesOf (now (s .entry))) (doublesOf (now (a .entry))) (doublesOf (now (t .entry))) (doublesOf (now (x .entry))) (length (now (out .entry)) / 8)) (listStation (now (s .entry)) (now (a .entry)) (now (t .entry)) (now (x .entry))) (length (doublesOf (now (x .entry)))) (now (out .entry)) r (now (out .exit)) ⌝ }
+    ensures { λ r. ⌜ ListAnswered (now (s .entry)) (now (a .entry)) (now (t .entry)) (now (x .entry)) (listNo (doublesOf (now (s .entry))) (doublesOf (now (a .entry))) (doublesOf (now (t .entry))) (doublesOf (now (x .entry))) (length (now (out .entry)) / 8)) (now (out .entry)) r (now (out .exit)) ⌝ }
 {
     if t.len() / 8 == s.len() / 8 {
         return with_times(s, a, t, x, out);
@@ -81,7 +81,7 @@ fn with_profile(s: &[u8], a: &[u8], t: &[u8], x: &[u8], out: &mut [u8]) -> Sampl
 
 // One entry for each sample.
 pub fn t_to_s_list(s: &[u8], a: &[u8], t: &[u8], x: &[u8], out: &mut [u8]) -> Sampled
-    ensures { λ r. ⌜ Answered (listCounts (now (t .entry)) (now (x .entry))) (listByteNo (now (s .entry)) (now (a .entry)) (now (t .entry)) (now (x .entry)) (now (out .entry))) (listStation (now (s .entry)) (now (a .entry)) (now (t .entry)) (now (x .entry))) (length (doublesOf (now (x .entry)))) (now (out .entry)) r (now (out .exit)) ⌝ }
+    ensures { λ r. ⌜ ListAnswered (now (s .entry)) (now (a .entry)) (now (t .entry)) (now (x .entry)) (listByteNo (now (s .entry)) (now (a .entry)) (now (t .entry)) (now (x .entry)) (now (out .entry))) (now (out .entry)) r (now (out .exit)) ⌝ }
 {
     if doubles::in_eights(s.len(), a.len(), out.len()) {
         if doubles::in_eights(t.len(), x.len(), out.len()) {

@@ -8,7 +8,7 @@ ghost use Prim.Native.Nat.{_-_, _/_, _≤_};
 ghost use lib.ListN.{length};
 ghost use Rattle.interpolation.specs.Slopes.{slope, slopesNo};
 ghost use Rattle.byte_lists.specs.Bytes.{doublesOf};
-ghost use Rattle.conversions.specs.Stations.{Replied, slopesByteNo, slopedNumber};
+ghost use Rattle.conversions.specs.Stations.{Replied, SlopesReplied, slopesByteNo, slopedNumber};
 
 fn number_of(r: Sloped) -> u64
     ensures { λ n. ⌜ n ≡ slopedNumber r ⌝ }
@@ -34,7 +34,7 @@ fn slopes(s: &[f64], a: &[f64], aside: &mut [f64], out: &mut [u8]) -> u64
 
 fn decoded(s: &[u8], a: &[u8], out: &mut [u8]) -> u64
     requires { ⌜ (length (now s) / 8 ≤ 4096) × (length (now a) / 8 ≤ 4096) ⌝ }
-    ensures { λ r. ⌜ Replied (slopesNo (doublesOf (now (s .entry))) (doublesOf (now (a .entry))) (length (now (out .entry)) / 8)) (slope (doublesOf (now (s .entry))) (doublesOf (now (a .entry)))) (length (doublesOf (now (s .entry))) - 1) (now (out .entry)) r (now (out .exit)) ⌝ }
+    ensures { λ r. ⌜ SlopesReplied (now (s .entry)) (now (a .entry)) (slopesNo (doublesOf (now (s .entry))) (doublesOf (now (a .entry))) (length (now (out .entry)) / 8)) (now (out .entry)) r (now (out .exit)) ⌝ }
 {
     let mut stations = [0.0; 4096];
     let mut speeds = [0.0; 4096];
@@ -51,7 +51,7 @@ fn decoded(s: &[u8], a: &[u8], out: &mut [u8]) -> u64
 
 // One entry fewer than stations.
 pub fn a_to_b(s: &[u8], a: &[u8], out: &mut [u8]) -> u64
-    ensures { λ r. ⌜ Replied (slopesByteNo (now (s .entry)) (now (a .entry)) (now (out .entry))) (slope (doublesOf (now (s .entry))) (doublesOf (now (a .entry)))) (length (doublesOf (now (s .entry))) - 1) (now (out .entry)) r (now (out .exit)) ⌝ }
+    ensures { λ r. ⌜ SlopesReplied (now (s .entry)) (now (a .entry)) (slopesByteNo (now (s .entry)) (now (a .entry)) (now (out .entry))) (now (out .entry)) r (now (out .exit)) ⌝ }
 {
     if doubles::in_eights(s.len(), a.len(), out.len()) {
         let number = profile::lengths(s.len() / 8, a.len() / 8);

@@ -8,7 +8,7 @@ ghost use Prim.Native.Nat.{_/_, _≤_};
 ghost use lib.ListN.{length};
 ghost use Rattle.interpolation.specs.Times.{timeAt, timesNo};
 ghost use Rattle.byte_lists.specs.Bytes.{doublesOf};
-ghost use Rattle.conversions.specs.Stations.{Replied, timesByteNo, timedNumber};
+ghost use Rattle.conversions.specs.Stations.{Replied, TimesReplied, timesByteNo, timedNumber};
 
 fn number_of(r: Timed) -> u64
     ensures { λ n. ⌜ n ≡ timedNumber r ⌝ }
@@ -34,7 +34,7 @@ fn times(s: &[f64], a: &[f64], t0: f64, aside: &mut [f64], out: &mut [u8]) -> u6
 
 fn decoded(s: &[u8], a: &[u8], t0: f64, out: &mut [u8]) -> u64
     requires { ⌜ (length (now s) / 8 ≤ 4096) × (length (now a) / 8 ≤ 4096) ⌝ }
-    ensures { λ r. ⌜ Replied (timesNo (doublesOf (now (s .entry))) (doublesOf (now (a .entry))) t0 (length (now (out .entry)) / 8)) (timeAt (doublesOf (now (s .entry))) (doublesOf (now (a .entry))) t0) (length (doublesOf (now (s .entry)))) (now (out .entry)) r (now (out .exit)) ⌝ }
+    ensures { λ r. ⌜ TimesReplied (now (s .entry)) (now (a .entry)) t0 (timesNo (doublesOf (now (s .entry))) (doublesOf (now (a .entry))) t0 (length (now (out .entry)) / 8)) (now (out .entry)) r (now (out .exit)) ⌝ }
 {
     let mut stations = [0.0; 4096];
     let mut speeds = [0.0; 4096];
@@ -52,7 +52,7 @@ fn decoded(s: &[u8], a: &[u8], t0: f64, out: &mut [u8]) -> u64
 
 // One entry for each station.
 pub fn s_to_t(s: &[u8], a: &[u8], t0: f64, out: &mut [u8]) -> u64
-    ensures { λ r. ⌜ Replied (timesByteNo (now (s .entry)) (now (a .entry)) t0 (now (out .entry))) (timeAt (doublesOf (now (s .entry))) (doublesOf (now (a .entry))) t0) (length (doublesOf (now (s .entry)))) (now (out .entry)) r (now (out .exit)) ⌝ }
+    ensures { λ r. ⌜ TimesReplied (now (s .entry)) (now (a .entry)) t0 (timesByteNo (now (s .entry)) (now (a .entry)) t0 (now (out .entry))) (now (out .entry)) r (now (out .exit)) ⌝ }
 {
     if doubles::in_eights(s.len(), a.len(), out.len()) {
         let number = profile::lengths(s.len() / 8, a.len() / 8);

@@ -5,20 +5,17 @@ use conversions::slopes::a_to_b;
 use conversions::times::s_to_t;
 use interpolation::samples::Sampled;
 use number::pattern::double_of;
-ghost use Prim.Native.Nat.{_-_};
 ghost use lib.ListN.{length};
 ghost use lib.Ieee.{binary64, ofBits};
-ghost use Rattle.interpolation.specs.Slopes.{slope};
-ghost use Rattle.interpolation.specs.Times.{timeAt};
 ghost use Rattle.interpolation.specs.Grid.{gridEntry, gridEntries};
 ghost use Rattle.byte_lists.specs.Bytes.{doublesOf};
-ghost use Rattle.conversions.specs.Stations.{Replied, slopesByteNo, timesByteNo, listByteNo, listCounts, listStation, gridByteNo, gridCounts};
+ghost use Rattle.conversions.specs.Stations.{SlopesReplied, TimesReplied, slopesByteNo, timesByteNo, listByteNo, listCounts, listStation, gridByteNo, gridCounts};
 ghost use Rattle.malikoza.specs.Stations.{Counted, Tallied, yes};
 
 // One entry fewer than stations.
 #[no_mangle]
 pub extern "C" fn malikoza_a_to_b(s: &[u8], a: &[u8], out: &mut [u8]) -> u64
-    ensures { λ r. ⌜ Replied (slopesByteNo (now (s .entry)) (now (a .entry)) (now (out .entry))) (slope (doublesOf (now (s .entry))) (doublesOf (now (a .entry)))) (length (doublesOf (now (s .entry))) - 1) (now (out .entry)) r (now (out .exit)) ⌝ }
+    ensures { λ r. ⌜ SlopesReplied (now (s .entry)) (now (a .entry)) (slopesByteNo (now (s .entry)) (now (a .entry)) (now (out .entry))) (now (out .entry)) r (now (out .exit)) ⌝ }
 {
     a_to_b(s, a, out)
 }
@@ -26,7 +23,7 @@ pub extern "C" fn malikoza_a_to_b(s: &[u8], a: &[u8], out: &mut [u8]) -> u64
 // One entry for each station.
 #[no_mangle]
 pub extern "C" fn malikoza_s_to_t(s: &[u8], a: &[u8], t0: u64, out: &mut [u8]) -> u64
-    ensures { λ r. ⌜ Replied (timesByteNo (now (s .entry)) (now (a .entry)) (ofBits binary64 t0) (now (out .entry))) (timeAt (doublesOf (now (s .entry))) (doublesOf (now (a .entry))) (ofBits binary64 t0)) (length (doublesOf (now (s .entry)))) (now (out .entry)) r (now (out .exit)) ⌝ }
+    ensures { λ r. ⌜ TimesReplied (now (s .entry)) (now (a .entry)) (ofBits binary64 t0) (timesByteNo (now (s .entry)) (now (a .entry)) (ofBits binary64 t0) (now (out .entry))) (now (out .entry)) r (now (out .exit)) ⌝ }
 {
     s_to_t(s, a, double_of(t0), out)
 }

@@ -1,0 +1,55 @@
+//! Malikoza tells a hot knife on a robot how fast it may go, and where it is when.
+//!
+//! This is a safe face of libmalikoza.a, whose every answer is proved to be the one that a short definition names. Nothing traps and nothing hangs: what
+//! cannot be answered is refused, by a [`Refusal`] with its number.
+//!
+//! | function | answers |
+//! |---|---|
+//! | [`recover`] | the squared speed at a station that its cap and its rows allow, certified |
+//! | [`a_to_b`] | accelerations, from stations and squared speeds |
+//! | [`s_to_t`] | the time at each station |
+//! | [`t_to_s_list`], [`t_to_s_grid`] | where the knife is at given times, or on an even grid of times |
+//! | [`sqrt`], [`fma`], [`hypot`] | the nearest double, ties to even |
+//! | [`next_down`], [`minimum`], [`maximum`], [`absolute`], [`whole_part`] | as they are named |
+//!
+//! Stations `s` rise along the path; `a` are squared speeds, one for each station; `t` are times. The conversions write the front of a slice that they are
+//! lent, and nothing at all where they refuse; [`owned`] has the same ones with a list of their own. A NaN of any pattern reads as NaN, and every NaN
+//! answered is 7FF8000000000000.
+//!
+//! The largest calls take over a mebibyte of stack: include/malikoza.h lists what each entry needs.
+//!
+//! ```
+//! let s = [0.0, 1.0, 3.0];
+//! let a = [0.0, 4.0, 4.0];
+//! let t = malikoza::owned::s_to_t(&s, &a, 10.0)?;
+//! assert_eq!(t, [10.0, 11.0, 12.0]);
+//! let (stations, _) = malikoza::owned::t_to_s_grid(&s, &a, &t, 10.0, 0.5, true)?;
+//! assert_eq!(stations, [0.0, 0.25, 1.0, 2.0, 3.0]);
+//! # Ok::<(), malikoza::Refusal>(())
+//! ```
+
+#![warn(missing_docs)]
+
+#[cfg(target_endian = "big")]
+compile_error!("the library takes doubles low byte first, and this crate lends it slices of f64 as they stand");
+
+mod conversions;
+mod entries;
+mod leaves;
+pub mod owned;
+mod recovery;
+mod refusal;
+#[cfg(test)]
+mod tests;
+
+pub use conversions::{a_to_b, s_to_t, t_to_s_grid, t_to_s_list, Counts};
+pub use leaves::{absolute, fma, hypot, maximum, minimum, next_down, sqrt, whole_part};
+pub use recovery::{recover, Interval, Recovered, Request};
+pub use refusal::Refusal;
+
+/// The most rows that a recovery takes.
+pub const MOST_ROWS: usize = 256;
+/// The most stations that a conversion takes; 2 are the fewest.
+pub const MOST_STATIONS: usize = 4096;
+/// The most samples that a conversion takes, the final station of a grid not counted.
+pub const MOST_SAMPLES: usize = 65536;

@@ -1,0 +1,110 @@
+//! Recovery of a speed.
+
+use crate::entries::{self, list};
+use crate::refusal::{self, Refusal};
+
+/// The squared speeds that a backward pass leaves a station, both ends included.
+#[derive(Clone, Copy, Debug, PartialEq)]
+pub struct Interval {
+    /// The least.
+    pub lower: f64,
+    /// The greatest.
+    pub upper: f64,
+}
+
+/// What a recovery is asked: everything but the rows. Speeds are squared.
+#[derive(Clone, Copy, Debug, PartialEq)]
+pub struct Request {
+    /// The speed at the previous station.
+    pub a_prev: f64,
+    /// The previous station's backward interval.
+    pub prev_backward: Interval,
+    /// The current station's backward interval.
+    pub curr_backward: Interval,
+    /// The previous station's path cap.
+    pub prev_path_max: f64,
+    /// The current station's path cap.
+    pub curr_path_max: f64,
+    /// How far a row may be passed.
+    pub feas_tol: f64,
+    /// How far, plainly, `a_prev` may lie outside the previous station's bounds.
+    pub a_cmp_abs_tol: f64,
+    /// The same as a part of the larger of the two compared.
+    pub a_cmp_rel_tol: f64,
+}
+
+/// A certified speed.
+#[derive(Clone, Copy, Debug, PartialEq)]
+pub struct Recovered {
+    /// The squared speed at the current station.
+    pub speed: f64,
+    /// The worst normalized residual over the rows, +0 at least.
+    pub worst_normalized: f64,
+    /// The worst raw residual over the rows, +0 at least.
+    pub worst_raw: f64,
+    /// How many candidates were tried: 1 to 71.
+    pub tried: u64,
+}
+
+/// The squared speed at the current station that its cap and its rows allow, certified.
+///
+/// A row is coef_curr, coef_prev, rhs: it admits the speed x if coef_curr·x + coef_prev·a_prev is at most rhs, within `feas_tol`. The cap is tried first; where
+/// it fails, the rows give a projected upper end, and a speed that passes is searched for from there down. Neither the order of the rows nor how often one is
+/// given changes the answer.
+///
+/// Refuses with 1 to 9, in that order.
+///
+/// ```
+/// use malikoza::{recover, Interval, Recovered, Refusal, Request};
+///
+/// let mut request = Request {
+///     a_prev: 1.0,
+///     prev_backward: Interval { lower: 0.0, upper: 4.0 },
+///     curr_backward: Interval { lower: 0.0, upper: 4.0 },
+///     prev_path_max: 9.0,
+///     curr_path_max: 3.0,
+///     feas_tol: 0.0,
+///     a_cmp_abs_tol: 0.0,
+///     a_cmp_rel_tol: 0.0,
+/// };
+/// let answer = |speed, worst_normalized, worst_raw, tried| Ok(Recovered { speed, worst_normalized, worst_raw, tried });
+/// assert_eq!(recover(&request, &[]), answer(3.0, 0.0, 0.0, 1));
+/// assert_eq!(recover(&request, &[[1.0, 0.0, 2.0]]), answer(2.0, 0.0, 0.0, 2));
+/// assert_eq!(recover(&request, &[[0.0, 0.0, -1.0]]), Err(Refusal::RowImpossible));
+/// assert_eq!(recover(&request, &[[-1.0, 0.0, -5.0]]), Err(Refusal::ProjectionEmpty));
+/// request.feas_tol = 0.25;
+/// assert_eq!(recover(&request, &[[2.0, 0.0, 4.0]]), answer(2.25, 0.25, 0.5, 2));
+/// ```
+pub fn recover(request: &Request, rows: &[[f64; 3]]) -> Result<Recovered, Refusal> {
+    let q = request;
+    let (rows, rows_len) = list(rows.as_flattened());
+    let (mut speed, mut worst_normalized, mut worst_raw, mut tried) = (0, 0, 0, 0);
+    // SAFETY: the rows' pointer and length are one slice's, and the numbers written are four of our own.
+    let number = unsafe {
+        entries::malikoza_recover(
+            q.a_prev.to_bits(),
+            q.prev_backward.lower.to_bits(),
+            q.prev_backward.upper.to_bits(),
+            q.prev_path_max.to_bits(),
+            q.curr_backward.lower.to_bits(),
+            q.curr_backward.upper.to_bits(),
+            q.curr_path_max.to_bits(),
+            q.feas_tol.to_bits(),
+            q.a_cmp_abs_tol.to_bits(),
+            q.a_cmp_rel_tol.to_bits(),
+            rows,
+            rows_len,
+            &mut speed,
+            &mut worst_normalized,
+            &mut worst_raw,
+            &mut tried,
+        )
+    };
+    refusal::none(number)?;
+    Ok(Recovered {
+        speed: f64::from_bits(speed),
+        worst_normalized: f64::from_bits(worst_normalized),
+        worst_raw: f64::from_bits(worst_raw),
+        tried,
+    })
+}
