@@ -1,10 +1,10 @@
 // Recovery: document 01's cases, then one for each refusal number and for each way an answer is found.
 use crate::tell::tell;
+use limits::request::Interval;
+use limits::request::Request;
 use number::pattern::pattern_of;
+use topp2_ra::answer::Answer;
 use topp2_ra::recovery::recover_forward_intersection;
-use topp2_ra::request::Answer;
-use topp2_ra::request::Interval;
-use topp2_ra::request::Request;
 
 // a_prev, previous [0, 4] cap 9, current [lower, upper] with its cap; comparison tolerances 0.
 fn request(a_prev: f64, lower: f64, upper: f64, cap: f64, feas_tol: f64) -> Request {

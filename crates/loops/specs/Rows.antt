@@ -18,17 +18,17 @@ rowsOf (a ∷ []) = []
 rowsOf (a ∷ b ∷ []) = []
 rowsOf (a ∷ b ∷ c ∷ l) = row a b c ∷ rowsOf l
 
--- the state after each row in turn
-unfoldable pub fold : {S : Type 0} → (S → Row → S) → S → List Row → S
+-- the state after each row in turn; rows, or what was made of them
+unfoldable pub fold : {S A : Type 0} → (S → A → S) → S → List A → S
 fold f s [] = s
 fold f s (r ∷ rs) = fold f (f s r) rs
 
 -- some row has p
-unfoldable pub any : (Row → Bool) → List Row → Bool
+unfoldable pub any : {A : Type 0} → (A → Bool) → List A → Bool
 any p [] = false
 any p (r ∷ rs) = p r || any p rs
 
 -- every row has p
-unfoldable pub all : (Row → Bool) → List Row → Bool
+unfoldable pub all : {A : Type 0} → (A → Bool) → List A → Bool
 all p [] = true
 all p (r ∷ rs) = p r && all p rs

@@ -5,9 +5,9 @@ use mathlib.Core.Bool.{cond}
 use mathlib.Core.List.{List}
 use lib.Ieee.{binary64, ofBits, toBits}
 use Rattle.topp2_ra.specs.Recovery.{recovered}
-use Rattle.topp2_ra.specs.declared.request.Request.{Request}
-use Rattle.topp2_ra.specs.declared.request.Answer.{Answer}
-use Rattle.topp2_ra.specs.declared.request.Answer.the-variants.{Certified, Refused}
+use Rattle.limits.specs.declared.request.Request.{Request}
+use Rattle.topp2_ra.specs.declared.answer.Answer.{Answer}
+use Rattle.topp2_ra.specs.declared.answer.Answer.the-variants.{Certified, Refused}
 use Rattle.byte_lists.specs.Bytes.{inEights, doublesOf}
 
 -- 10: "a byte list of a length not divisible by eight; before all others"

@@ -1,11 +1,11 @@
 // Recovery on patterns and a byte list of rows.
 use byte_lists::doubles;
+use limits::request::Interval;
+use limits::request::Request;
 use number::pattern::double_of;
 use number::pattern::pattern_of;
+use topp2_ra::answer::Answer;
 use topp2_ra::recovery::recover_forward_intersection;
-use topp2_ra::request::Answer;
-use topp2_ra::request::Interval;
-use topp2_ra::request::Request;
 ghost use mathlib.Core.Path.{_≡_};
 ghost use Prim.Native.Nat.{_%_};
 ghost use lib.ListN.{length};

@@ -11,13 +11,13 @@ use lib.Ieee.Positive.{between}
 use Rattle.number.proofs.Fractions.{or-l, or-r, or-split}
 use Rattle.number.proofs.Order.{le-number, lt-le, eq-le, eq-ge, le-transitive, le-antisymmetric, lt-not-le, lt-or-le}
 use Rattle.loops.specs.Rows.{Row}
-use Rattle.topp2_ra.specs.Doubles as doubles
-use Rattle.topp2_ra.specs.Certificate.{passes, certificate}
+use Rattle.limits.specs.Doubles as doubles
+use Rattle.limits.specs.Certificate.{passes, certificate}
 use Rattle.topp2_ra.specs.Search.{middle, stops, replaced, halved, halvings}
-use Rattle.topp2_ra.specs.declared.request.Request.{Request}
+use Rattle.limits.specs.declared.request.Request.{Request}
 use Rattle.topp2_ra.specs.declared.halving.Ends.{Ends}
-use Rattle.topp2_ra.specs.declared.certificate.Certificate.{Certificate}
-use Rattle.topp2_ra.specs.declared.certificate.Certificate.the-variants.{Passed, Failed}
+use Rattle.limits.specs.declared.certificate.Certificate.{Certificate}
+use Rattle.limits.specs.declared.certificate.Certificate.the-variants.{Passed, Failed}
 use Rattle.passing.proofs.Grid.{rnd}
 use Rattle.passing.proofs.Mean.{bound, settle}
 use Rattle.passing.proofs.Middle.{half, mean}
@@ -132,15 +132,15 @@ module _ (q : Request) (rows : List Row) (high : Float) where
             settle (bound n) (g .0) t b (g .2) (g .3),
           )
 
-  pub halvings-end : (n z : ℕ) (e : Ends) (t : ℕ) → Bracket z e t → t ≤ bound n → Ended (halvings q rows n (stops e) e)
+  pub halvings-end : (n z : ℕ) (e : Ends) (t : ℕ) → Bracket z e t → t ≤ bound n → Ended (halvings (certificate q rows) n (stops e) e)
   unfolding halvings halved
   halvings-end zero z e t B h = ended z e t B (one-step binary64 z (e .passing) (e .rejected) t (B .gap) h)
   halvings-end (suc n) z e t B h =
       let m = middle (e .passing) (e .rejected) in
       go (stops e) (λ b. b) (λ b. b) (λ b.
       let r = replaced-bracket z e t n (certificate q rows m) (verdict-is q rows m) B b h in
-      halvings-end n z (halved q rows e) (r .0) (r .1) (r .2))
+      halvings-end n z (halved (certificate q rows) e) (r .0) (r .1) (r .2))
     where
-      go : (b : Bool) → (T b → T (stops e)) → (T (not b) → T (not (stops e))) → (T (not (stops e)) → Ended (halvings q rows n (stops (halved q rows e)) (halved q rows e))) → Ended (halvings q rows (suc n) b e)
+      go : (b : Bool) → (T b → T (stops e)) → (T (not b) → T (not (stops e))) → (T (not (stops e)) → Ended (halvings (certificate q rows) n (stops (halved (certificate q rows) e)) (halved (certificate q rows) e))) → Ended (halvings (certificate q rows) (suc n) b e)
       go true s g ih = ended z e t B (stopped z e t (B .gap) (s tt))
       go false s g ih = ih (g tt)

@@ -13,14 +13,14 @@ use Rattle.number.proofs.Order.{number, no-nan, lt-le, eq-le, le-number, le-ref
 use Rattle.number.proofs.Folds.{All}
 use Rattle.number.proofs.Extremes.{Fits, minimum-lattice, maximum-lattice}
 use Rattle.loops.specs.Rows.{Row}
-use Rattle.topp2_ra.specs.Doubles as doubles
-use Rattle.topp2_ra.specs.Doubles.{_⊘_}
-use Rattle.topp2_ra.specs.Bounds.{lower, upper}
-use Rattle.topp2_ra.specs.Row.{empty, normalized, raw, rawNormalized}
-use Rattle.topp2_ra.specs.Certificate.{worseNormalized, worseRaw}
-use Rattle.topp2_ra.specs.Search.{reach, slope, narrowed, projected}
-use Rattle.topp2_ra.specs.declared.request.Request.{Request}
-use Rattle.topp2_ra.specs.declared.projection.Span.{Span}
+use Rattle.limits.specs.Doubles as doubles
+use Rattle.limits.specs.Doubles.{_⊘_}
+use Rattle.limits.specs.Bounds.{lower, upper}
+use Rattle.limits.specs.Row.{empty, normalized, raw, rawNormalized}
+use Rattle.limits.specs.Certificate.{worseNormalized, worseRaw}
+use Rattle.limits.specs.Projection.{reach, slope, cutBy, narrowed, projected}
+use Rattle.limits.specs.declared.request.Request.{Request}
+use Rattle.limits.specs.declared.projection.Span.{Span}
 use Rattle.passing.specs.Demand.{Doubles}
 use Rattle.passing.proofs.Gathered.{fold-keeps}
 
@@ -64,7 +64,7 @@ module _ (q : Request) where
   step s w e p n = cond e s (cond p (record { low = s .low; high = minimum (s .high) (end w) }) (cond n (record { low = maximum (s .low) (end w); high = s .high }) s))
 
   pub brings-low : (s : Span) (w : Row) → narrowed q s w .low ≡ foldl maximum (s .low) (asLow w)
-  unfolding narrowed
+  unfolding narrowed cutBy
   brings-low s w = go (empty w) (lt doubles.zero (slope w)) (lt (slope w) doubles.zero)
     where
       go : (e p n : Bool) → step s w e p n .low ≡ foldl maximum (s .low) (cond e [] (cond p [] (cond n (end w ∷ []) [])))
@@ -74,7 +74,7 @@ module _ (q : Request) where
       go false false false = refl
 
   pub brings-high : (s : Span) (w : Row) → narrowed q s w .high ≡ foldl minimum (s .high) (asHigh w)
-  unfolding narrowed
+  unfolding narrowed cutBy
   brings-high s w = go (empty w) (lt doubles.zero (slope w)) (lt (slope w) doubles.zero)
     where
       go : (e p n : Bool) → step s w e p n .high ≡ foldl minimum (s .high) (cond e [] (cond p (end w ∷ []) []))

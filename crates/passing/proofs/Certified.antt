@@ -9,17 +9,19 @@ use lib.Ieee.Fits.{and-l, and-r}
 use lib.Ieee.Scale.{finite}
 use Rattle.number.specs.Leaves.{nextDown}
 use Rattle.loops.specs.Rows.{Row, rowsOf, any}
-use Rattle.topp2_ra.specs.Bounds.{upper}
-use Rattle.topp2_ra.specs.Certificate.{passes, worstNormalized, worstRaw, certificate}
-use Rattle.topp2_ra.specs.Search.{projected, unreachable, flat, middle, stops, replaced, halved, halvings, afterMiddle, withMiddle, tryMiddle, neighbours, tryNeighbours, searched}
-use Rattle.topp2_ra.specs.Recovery.{wholeRows, inputsGood, previousGood, currentGood, unfit, unmeetable, afterCap, withRows, recovered}
-use Rattle.topp2_ra.specs.declared.request.Request.{Request}
-use Rattle.topp2_ra.specs.declared.request.Answer.{Answer}
-use Rattle.topp2_ra.specs.declared.request.Answer.the-variants.{Certified, Refused}
-use Rattle.topp2_ra.specs.declared.projection.Span.{Span}
+use Rattle.limits.specs.Bounds.{upper}
+use Rattle.limits.specs.Certificate.{passes, worstNormalized, worstRaw, certificate}
+use Rattle.topp2_ra.specs.Search.{Asked, middle, stops, replaced, halved, halvings, afterMiddle, withMiddle, tryMiddle, neighbours, tryNeighbours, searched}
+use Rattle.limits.specs.Projection.{projected, unreachable, flat}
+use Rattle.topp2_ra.specs.Recovery.{wholeRows, inputsGood, previousGood, currentGood, afterCap, withRows, recovered}
+use Rattle.limits.specs.Row.{unfit, unmeetable}
+use Rattle.limits.specs.declared.request.Request.{Request}
+use Rattle.topp2_ra.specs.declared.answer.Answer.{Answer}
+use Rattle.topp2_ra.specs.declared.answer.Answer.the-variants.{Certified, Refused}
+use Rattle.limits.specs.declared.projection.Span.{Span}
 use Rattle.topp2_ra.specs.declared.halving.Ends.{Ends}
-use Rattle.topp2_ra.specs.declared.certificate.Certificate.{Certificate}
-use Rattle.topp2_ra.specs.declared.certificate.Certificate.the-variants.{Passed, Failed}
+use Rattle.limits.specs.declared.certificate.Certificate.{Certificate}
+use Rattle.limits.specs.declared.certificate.Certificate.the-variants.{Passed, Failed}
 
 -- ---- the certificate's verdict
 
@@ -42,20 +44,20 @@ module _ (P : Answer → Type 0) (refused : (k : ℕ) → P (Refused k)) where
   either true x y h k = h tt
   either false x y h k = k tt
 
-  pub of-searched : (q : Request) (rows : List Row) (s : Span) → (T (finite (s .low)) → T (finite (s .high)) → T (not (lt (s .high) (s .low))) → P (tryNeighbours q rows s)) → P (searched q rows s)
+  pub of-searched : (cert : Asked) (s : Span) → (T (finite (s .low)) → T (finite (s .high)) → T (not (lt (s .high) (s .low))) → P (tryNeighbours cert s)) → P (searched cert s)
   unfolding searched
-  of-searched q rows s h =
+  of-searched cert s h =
       let b = finite (s .high) && not (lt (s .high) (s .low)) in
-      either (finite (s .low) && b) (tryNeighbours q rows s) (Refused 8)
+      either (finite (s .low) && b) (tryNeighbours cert s) (Refused 8)
       (λ t. let u = and-r (finite (s .low)) b t in h (and-l (finite (s .low)) b t) (and-l (finite (s .high)) (not (lt (s .high) (s .low))) u) (and-r (finite (s .high)) (not (lt (s .high) (s .low))) u))
       (λ t. refused 8)
 
-  of-cap : (q : Request) (rows : List Row) (c : Certificate) → ((n r : Float) → c ≡ Passed n r → P (Certified (upper q) n r 1)) → P (searched q rows (projected q rows)) → P (afterCap q rows c)
+  of-cap : (q : Request) (rows : List Row) (c : Certificate) → ((n r : Float) → c ≡ Passed n r → P (Certified (upper q) n r 1)) → P (searched (certificate q rows) (projected q rows)) → P (afterCap q rows c)
   unfolding afterCap
   of-cap q rows (Passed n r) h k = h n r refl
   of-cap q rows Failed h k = either (any (unreachable q) rows) (Refused 7) _ (λ t. refused 7) (λ t. either (any (flat q) rows) (Refused 8) _ (λ t. refused 8) (λ t. k))
 
-  pub of-recovered : (q : Request) (l : List Float) → ((n r : Float) → certificate q (rowsOf l) (upper q) ≡ Passed n r → P (Certified (upper q) n r 1)) → P (searched q (rowsOf l) (projected q (rowsOf l))) → P (recovered q l)
+  pub of-recovered : (q : Request) (l : List Float) → ((n r : Float) → certificate q (rowsOf l) (upper q) ≡ Passed n r → P (Certified (upper q) n r 1)) → P (searched (certificate q (rowsOf l)) (projected q (rowsOf l))) → P (recovered q l)
   unfolding recovered withRows
   of-recovered q l h k =
       either (not (wholeRows l)) (Refused 1) _ (λ t. refused 1) (λ t.
@@ -81,26 +83,26 @@ module _ (q : Request) (rows : List Row) where
   replaced-passing e m (Passed n r) v h = subst T v tt
   replaced-passing e m Failed v h = h
 
-  halvings-passing : (n : ℕ) (b : Bool) (e : Ends) → T (passes q rows (e .passing)) → T (passes q rows (halvings q rows n b e .passing))
+  halvings-passing : (n : ℕ) (b : Bool) (e : Ends) → T (passes q rows (e .passing)) → T (passes q rows (halvings (certificate q rows) n b e .passing))
   unfolding halvings halved
   halvings-passing zero b e h = h
   halvings-passing (suc n) true e h = h
   halvings-passing (suc n) false e h =
       let m = middle (e .passing) (e .rejected) in
-      halvings-passing n (stops (halved q rows e)) (halved q rows e) (replaced-passing e m (certificate q rows m) (verdict-is q rows m) h)
+      halvings-passing n (stops (halved (certificate q rows) e)) (halved (certificate q rows) e) (replaced-passing e m (certificate q rows m) (verdict-is q rows m) h)
 
-  middle-passing : (s : Span) (t : ℕ) → Passing (tryMiddle q rows s t)
+  middle-passing : (s : Span) (t : ℕ) → Passing (tryMiddle (certificate q rows) s t)
   unfolding tryMiddle withMiddle afterMiddle
   middle-passing s t = go (certificate q rows m) (verdict-is q rows m)
     where
       m : Float
       m = middle (s .low) (s .high)
 
-      go : (c : Certificate) → verdict c ≡ passes q rows m → Passing (withMiddle q rows s t c)
+      go : (c : Certificate) → verdict c ≡ passes q rows m → Passing (withMiddle (certificate q rows) s t c)
       go Failed v = tt
       go (Passed n r) v = halvings-passing 64 _ _ (subst T v tt)
 
-  neighbours-passing : (s : Span) (n : ℕ) (b : Bool) (c : Certificate) (x : Float) (t : ℕ) → verdict c ≡ passes q rows x → Passing (neighbours q rows s n b c x t)
+  neighbours-passing : (s : Span) (n : ℕ) (b : Bool) (c : Certificate) (x : Float) (t : ℕ) → verdict c ≡ passes q rows x → Passing (neighbours (certificate q rows) s n b c x t)
   unfolding neighbours
   neighbours-passing s zero b c x t v = middle-passing s t
   neighbours-passing s (suc n) true c x t v = middle-passing s t
@@ -109,9 +111,9 @@ module _ (q : Request) (rows : List Row) where
       let y = nextDown binary64 x in
       neighbours-passing s n (lt y (s .low)) (certificate q rows y) y (t + 1) (verdict-is q rows y)
 
-  searched-passing : (s : Span) → Passing (searched q rows s)
+  searched-passing : (s : Span) → Passing (searched (certificate q rows) s)
   unfolding tryNeighbours
-  searched-passing s = of-searched Passing (λ k. tt) q rows s (λ a b c. neighbours-passing s 5 (lt (s .high) (s .low)) (certificate q rows (s .high)) (s .high) 1 (verdict-is q rows (s .high)))
+  searched-passing s = of-searched Passing (λ k. tt) (certificate q rows) s (λ a b c. neighbours-passing s 5 (lt (s .high) (s .low)) (certificate q rows (s .high)) (s .high) 1 (verdict-is q rows (s .high)))
 
 -- whatever recovery certifies passes
 pub certified-passes : (q : Request) (l : List Float) (x n r : Float) (t : ℕ) → recovered q l ≡ Certified x n r t → T (passes q (rowsOf l) x)

@@ -8,14 +8,9 @@ use lib.Dec.{T}
 use Rattle.number.proofs.Fractions.{or-l, or-r, or-split}
 use Rattle.number.proofs.Folds.{All, Within, Semilattice, fold-same}
 use Rattle.loops.specs.Rows.{Row, fold, any, all}
+use Rattle.limits.proofs.Within.{one-truth}
 
 -- ---- scans
-
-one-truth : (a b : Bool) → (T a → T b) → (T b → T a) → a ≡ b
-one-truth true true h k = refl
-one-truth true false h k = absurd (h tt)
-one-truth false true h k = absurd (k tt)
-one-truth false false h k = refl
 
 any-member : (p : Row → Bool) (w : Row) (m : List Row) → List·Memᴰ w m → T (p w) → T (any p m)
 unfolding any

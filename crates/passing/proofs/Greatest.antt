@@ -5,24 +5,26 @@ use mathlib.Core.List.{List}
 use mathlib.Core.Bool.{Bool, true, false, not}
 use Prim.Native.Nat.{ℕ, zero, suc, _+_, _^_}
 use lib.Dec.{T, T-not, lit≤}
-use lib.Ieee.{Float, inf, binary64, le, lt, fits}
+use lib.Ieee.{Float, binary64, le, lt, fits}
 use lib.Ieee.Scale.{finite}
 use Rattle.number.specs.Leaves.{nextDown}
 use Rattle.number.specs.Units.{unitsOf}
-use Rattle.number.proofs.Order.{nought, number, finite-number, le-number, lt-number, lt-le, le-reflexive, le-transitive, lt-not-le, lt-or-le, between-finite, no-less}
+use Rattle.number.proofs.Order.{nought, number, finite-number, le-number, lt-number, lt-le, le-reflexive, le-transitive, lt-not-le, lt-or-le, between-finite}
 use Rattle.number.proofs.Neighbour.{next-fits, next-less, next-nearest}
 use Rattle.loops.specs.Rows.{Row, rowsOf}
-use Rattle.topp2_ra.specs.Bounds.{upper}
-use Rattle.topp2_ra.specs.Certificate.{passes, certificate}
-use Rattle.topp2_ra.specs.Search.{projected, middle, stops, halvings, afterMiddle, withMiddle, tryMiddle, neighbours, tryNeighbours, searched}
+use Rattle.limits.specs.Bounds.{upper}
+use Rattle.limits.specs.Certificate.{passes, certificate}
+use Rattle.limits.specs.Projection.{projected}
+use Rattle.topp2_ra.specs.Search.{middle, stops, halvings, afterMiddle, withMiddle, tryMiddle, neighbours, tryNeighbours, searched}
 use Rattle.topp2_ra.specs.Recovery.{recovered}
-use Rattle.topp2_ra.specs.declared.request.Request.{Request}
-use Rattle.topp2_ra.specs.declared.request.Answer.{Answer}
-use Rattle.topp2_ra.specs.declared.request.Answer.the-variants.{Certified, Refused}
-use Rattle.topp2_ra.specs.declared.projection.Span.{Span}
+use Rattle.limits.specs.declared.request.Request.{Request}
+use Rattle.topp2_ra.specs.declared.answer.Answer.{Answer}
+use Rattle.topp2_ra.specs.declared.answer.Answer.the-variants.{Certified, Refused}
+use Rattle.limits.specs.declared.projection.Span.{Span}
 use Rattle.topp2_ra.specs.declared.halving.Ends.{Ends}
-use Rattle.topp2_ra.specs.declared.certificate.Certificate.{Certificate}
-use Rattle.topp2_ra.specs.declared.certificate.Certificate.the-variants.{Passed, Failed}
+use Rattle.limits.specs.declared.certificate.Certificate.{Certificate}
+use Rattle.limits.specs.declared.certificate.Certificate.the-variants.{Passed, Failed}
+use Rattle.limits.proofs.Within.{finite-above}
 use Rattle.passing.specs.Demand.{Doubles, smallest, Greatest}
 use Rattle.passing.proofs.NoGap.{zero-is, passes-between, no-gap}
 use Rattle.passing.proofs.Brought.{high-fits, low-from-zero}
@@ -30,10 +32,6 @@ use Rattle.passing.proofs.Halvings.{Gap}
 use Rattle.passing.proofs.Certified.{verdict, verdict-is, of-searched, of-recovered}
 use Rattle.passing.proofs.Bracket.{middle-is, Bracket, Ended, halvings-end}
 use Rattle.passing.proofs.Start.{middle-upto, first-gap}
-
--- -infinity is below every finite value
-above-infinity : (x : Float) → T (finite x) → T (lt (inf true) x)
-above-infinity x X = elim (lt-or-le (inf true) x tt (finite-number x X)) [ inl l ↦ l | inr g ↦ absurd (subst (λ (v : Float). T (finite v)) (no-less x g) X) ]
 
 module _ (q : Request) (rows : List Row) where
   abbrev s : Span
@@ -88,18 +86,18 @@ module _ (q : Request) (rows : List Row) where
           upto-high = le-reflexive high (finite-number high F);
         }
 
-    middle-answers : (t : ℕ) → T (not (passes q rows high)) → Answers (tryMiddle q rows s t)
+    middle-answers : (t : ℕ) → T (not (passes q rows high)) → Answers (tryMiddle (certificate q rows) s t)
     unfolding tryMiddle withMiddle afterMiddle
     middle-answers t f = go (certificate q rows m) (verdict-is q rows m)
       where
         m : Float
         m = middle low high
 
-        go : (c : Certificate) → verdict c ≡ passes q rows m → Answers (withMiddle q rows s t c)
+        go : (c : Certificate) → verdict c ≡ passes q rows m → Answers (withMiddle (certificate q rows) s t c)
         go Failed v = tt
         go (Passed n r) v = λ cap.
             let e : Ends = record { passing = m; «worst_normalized» = n; «worst_raw» = r; rejected = high; tried = t + 1 } in
-            ended-greatest (halvings q rows 64 (stops e) e) (halvings-end q rows high 64 (unitsOf binary64 m) e (2 ^ 53) (start n r (t + 1) f (subst T v tt)) (lit≤ tt))
+            ended-greatest (halvings (certificate q rows) 64 (stops e) e) (halvings-end q rows high 64 (unitsOf binary64 m) e (2 ^ 53) (start n r (t + 1) f (subst T v tt)) (lit≤ tt))
 
     -- ---- by neighbours
 
@@ -113,7 +111,7 @@ module _ (q : Request) (rows : List Row) where
     next : (x : Float) → Upto x → T (le low x) → T (not (passes q rows x)) → Upto (nextDown binary64 x)
     next x U l f =
         let y = nextDown binary64 x in
-        let less = next-less binary64 x (U .fit) (above-infinity x (between-finite low x high L F l (U .not-above))) in
+        let less = next-less binary64 x (U .fit) (finite-above x (between-finite low x high L F l (U .not-above))) in
         record {
           fit = next-fits binary64 x (U .fit);
           not-above = le-transitive y x high (lt-le y x less) (U .not-above);
@@ -126,7 +124,7 @@ module _ (q : Request) (rows : List Row) where
     found : (x : Float) → T (passes q rows x) → Upto x → Greatest q rows x
     found x p U = record { passing = p; not-above = U .not-above; greatest = U .covers }
 
-    next-answers : (n : ℕ) (b : Bool) (c : Certificate) (x : Float) (t : ℕ) → b ≡ lt x low → verdict c ≡ passes q rows x → T (not (passes q rows high)) → Upto x → Answers (neighbours q rows s n b c x t)
+    next-answers : (n : ℕ) (b : Bool) (c : Certificate) (x : Float) (t : ℕ) → b ≡ lt x low → verdict c ≡ passes q rows x → T (not (passes q rows high)) → Upto x → Answers (neighbours (certificate q rows) s n b c x t)
     unfolding neighbours
     next-answers zero b c x t e v f U = middle-answers t f
     next-answers (suc n) true c x t e v f U = middle-answers t f
@@ -140,7 +138,7 @@ module _ (q : Request) (rows : List Row) where
     high-covers = record { fit = high-fits q D rows; not-above = le-reflexive high (finite-number high F); covers = λ y G p h. h }
 
     -- high itself, and then its neighbours
-    first-answers : (n : ℕ) (b : Bool) (c : Certificate) → b ≡ lt high low → verdict c ≡ passes q rows high → Answers (neighbours q rows s (suc n) b c high 1)
+    first-answers : (n : ℕ) (b : Bool) (c : Certificate) → b ≡ lt high low → verdict c ≡ passes q rows high → Answers (neighbours (certificate q rows) s (suc n) b c high 1)
     unfolding neighbours
     first-answers n true c e v = absurd (lt-not-le high low (subst T e tt) order)
     first-answers n false (Passed a r) e v = λ cap. found high (subst T v tt) high-covers
@@ -149,9 +147,9 @@ module _ (q : Request) (rows : List Row) where
         let f = subst (λ (b : Bool). T (not b)) v tt in
         next-answers n (lt y low) (certificate q rows y) y 2 refl (verdict-is q rows y) f (next high high-covers order f)
 
-  searched-answers : Doubles q → T (le smallest high) → Answers (searched q rows s)
+  searched-answers : Doubles q → T (le smallest high) → Answers (searched (certificate q rows) s)
   unfolding tryNeighbours
-  searched-answers D large = of-searched Answers (λ k. tt) q rows s (λ L F o.
+  searched-answers D large = of-searched Answers (λ k. tt) (certificate q rows) s (λ L F o.
       let order : T (le low high) = elim (lt-or-le high low (finite-number high F) (finite-number low L)) [ inl l ↦ absurd (T-not (lt high low) o l) | inr g ↦ g ] in
       first-answers D large L F order 4 (lt high low) (certificate q rows high) refl (verdict-is q rows high))
 

@@ -7,9 +7,9 @@ use native.Mathlib.Omega.{arith}
 use lib.ListN.{length}
 use lib.Ieee.{Float}
 use Rattle.loops.specs.Rows.{Row, row, rowsOf, all}
-use Rattle.topp2_ra.specs.Row.{admits}
-use Rattle.topp2_ra.specs.Certificate.{between, passes}
-use Rattle.topp2_ra.specs.declared.request.Request.{Request}
+use Rattle.limits.specs.Row.{admits}
+use Rattle.limits.specs.Certificate.{between, passes}
+use Rattle.limits.specs.declared.request.Request.{Request}
 
 -- the rows of a list joined to whole rows
 rows-joined : (l m : List Float) → length l % 3 ≡ 0 → rowsOf (l ++ m) ≡ rowsOf l ++ rowsOf m

@@ -3,9 +3,9 @@ use mathlib.Core.List.{List, List·Memᴰ}
 use lib.Dec.{T}
 use lib.Ieee.{Float, binary64, le, fits, ofBits}
 use Rattle.loops.specs.Rows.{Row, rowsOf}
-use Rattle.topp2_ra.specs.Certificate.{passes}
-use Rattle.topp2_ra.specs.Search.{projected}
-use Rattle.topp2_ra.specs.declared.request.Request.{Request}
+use Rattle.limits.specs.Certificate.{passes}
+use Rattle.limits.specs.Projection.{projected}
+use Rattle.limits.specs.declared.request.Request.{Request}
 
 -- each row of the one is a row of the other, bit for bit: "the same rows, in any order or number"
 pub record SameRows (l m : List Float) : Type 0 where

@@ -7,11 +7,13 @@ use Rattle.roots.specs.Root.{rootIn, isqrt, stickRoot, rootNearest, sqrtOf}
 use Rattle.roots.specs.Hypot.{hypotOf}
 use Rattle.fused.specs.Fused.{infPlus, fmaOf}
 use Rattle.topp2_ra.specs.Tolerant.{approxOrder}
-use Rattle.topp2_ra.specs.Bounds.{insidePrevious}
-use Rattle.topp2_ra.specs.Row.{numbersFinite, allWithin, admits}
-use Rattle.topp2_ra.specs.Certificate.{between, passes, worseNormalized, worseRaw, certificate}
-use Rattle.topp2_ra.specs.Search.{reach, slope as incline, narrowed, unreachable, flat, neighbours, tryNeighbours, searched}
-use Rattle.topp2_ra.specs.Recovery.{wholeRows, tolerance, noneNan, inputsGood, previousGood, currentGood, unfit, unmeetable, afterCap, withRows, recovered}
+use Rattle.topp2_ra.specs.Recovery.{insidePrevious}
+use Rattle.limits.specs.Row.{numbersFinite, allWithin, admits}
+use Rattle.limits.specs.Certificate.{between, passes, worseNormalized, worseRaw, certificate}
+use Rattle.limits.specs.Projection.{reach, slope as incline, cutBy, narrowed, unreachable, flatBy, flat}
+use Rattle.topp2_ra.specs.Search.{neighbours, tryNeighbours, searched}
+use Rattle.topp2_ra.specs.Recovery.{wholeRows, tolerance, noneNan, inputsGood, previousGood, currentGood, afterCap, withRows, recovered}
+use Rattle.limits.specs.Row.{unfit, unmeetable}
 use Rattle.loops.specs.Upto.{every, count, seek, first, table, filled}
 use Rattle.interpolation.specs.Profile.{everyEntry, everyPair, notBelowZero, notBothZero, profileNo, speedNo}
 use Rattle.interpolation.specs.Slopes.{slope, slopesNo}
@@ -22,6 +24,6 @@ use Rattle.interpolation.specs.Grid.{lastOf, gridSize, gridTime, finalAdded, ev
 use Rattle.starred.specs.Cases.{AllHold, starred}
 
 pub starred-hold : AllHold starred
-unfolding round add sub mul div lt le eq isNan ofBits toBits negative countsBelow minimum maximum absolute nextDown rowsOf fold any all rootIn isqrt stickRoot rootNearest sqrtOf hypotOf infPlus fmaOf approxOrder insidePrevious numbersFinite allWithin admits between passes worseNormalized worseRaw certificate reach incline narrowed unreachable flat neighbours tryNeighbours searched wholeRows tolerance noneNan inputsGood previousGood currentGood unfit unmeetable afterCap withRows recovered every count seek first table filled everyEntry everyPair notBelowZero notBothZero profileNo speedNo slope slopesNo leg legTime timeAt timesFinite startNo timesNo intervalOf inverse2order c1At stationIn isBefore isInside isPast stationAt countsOf timedNo samplesNo listNo lastOf gridSize gridTime finalAdded evenNo gridNo gridStation gridEntry gridEntries ofInt toUnsigned
+unfolding round add sub mul div lt le eq isNan ofBits toBits negative countsBelow minimum maximum absolute nextDown rowsOf fold any all rootIn isqrt stickRoot rootNearest sqrtOf hypotOf infPlus fmaOf approxOrder insidePrevious numbersFinite allWithin admits between passes worseNormalized worseRaw certificate reach incline cutBy narrowed unreachable flatBy flat neighbours tryNeighbours searched wholeRows tolerance noneNan inputsGood previousGood currentGood unfit unmeetable afterCap withRows recovered every count seek first table filled everyEntry everyPair notBelowZero notBothZero profileNo speedNo slope slopesNo leg legTime timeAt timesFinite startNo timesNo intervalOf inverse2order c1At stationIn isBefore isInside isPast stationAt countsOf timedNo samplesNo listNo lastOf gridSize gridTime finalAdded evenNo gridNo gridStation gridEntry gridEntries ofInt toUnsigned
 starred-hold =
     (refl, (refl, (refl, (refl, (refl, (refl, (refl, (refl, (refl, (record { answer = refl; left = refl }, (record { answer = refl; left = refl }, (record { answer = refl; left = refl }, (record { answer = refl; left = refl }, tt)))))))))))))

@@ -8,9 +8,9 @@ use Rattle.roots.specs.Root.{sqrtOf}
 use Rattle.roots.specs.Hypot.{hypotOf}
 use Rattle.fused.specs.Fused.{fmaOf}
 use Rattle.topp2_ra.specs.Recovery.{recovered}
-use Rattle.topp2_ra.specs.declared.request.Request.{Request}
-use Rattle.topp2_ra.specs.declared.request.Answer.{Answer}
-use Rattle.topp2_ra.specs.declared.request.Answer.the-variants.{Certified, Refused}
+use Rattle.limits.specs.declared.request.Request.{Request}
+use Rattle.topp2_ra.specs.declared.answer.Answer.{Answer}
+use Rattle.topp2_ra.specs.declared.answer.Answer.the-variants.{Certified, Refused}
 use Rattle.interpolation.specs.Slopes.{Slopes}
 use Rattle.interpolation.specs.Times.{Times}
 use Rattle.interpolation.specs.List.{Listed}

@@ -2,32 +2,28 @@
 use Prim.Native.Nat.{ℕ, zero, suc, _+_, _-_, _≤_, _<_}
 use mathlib.Core.Path.{_≡_, refl}
 use mathlib.Core.Bool.{Bool, true, false}
-use mathlib.Core.List.{List}
 use native.Mathlib.Omega.{arith}
 use lib.Ieee.{Float, binary64, lt}
 use Rattle.number.specs.Leaves.{nextDown}
-use Rattle.loops.specs.Rows.{Row}
-use Rattle.topp2_ra.specs.Certificate.{certificate}
-use Rattle.topp2_ra.specs.Search.{middle, stops, replaced, halved, halvings, neighbours, tryMiddle}
-use Rattle.topp2_ra.specs.declared.request.Request.{Request}
-use Rattle.topp2_ra.specs.declared.request.Answer.the-variants.{Certified}
-use Rattle.topp2_ra.specs.declared.projection.Span.{Span}
+use Rattle.topp2_ra.specs.Search.{Asked, middle, stops, replaced, halved, halvings, neighbours, tryMiddle}
+use Rattle.topp2_ra.specs.declared.answer.Answer.the-variants.{Certified}
+use Rattle.limits.specs.declared.projection.Span.{Span}
 use Rattle.topp2_ra.specs.declared.halving.Ends.{Ends}
-use Rattle.topp2_ra.specs.declared.certificate.Certificate.{Certificate}
-use Rattle.topp2_ra.specs.declared.certificate.Certificate.the-variants.{Passed, Failed}
+use Rattle.limits.specs.declared.certificate.Certificate.{Certificate}
+use Rattle.limits.specs.declared.certificate.Certificate.the-variants.{Passed, Failed}
 
-module _ (q : Request) (rows : List Row) where
-  pub halvings-on : (n : ℕ) (e : Ends) → 0 < n → stops e ≡ false → halvings q rows n (stops e) e ≡ halvings q rows (n - 1) (stops (halved q rows e)) (halved q rows e)
+module _ (cert : Asked) where
+  pub halvings-on : (n : ℕ) (e : Ends) → 0 < n → stops e ≡ false → halvings cert n (stops e) e ≡ halvings cert (n - 1) (stops (halved cert e)) (halved cert e)
   unfolding halvings
   halvings-on zero e h k = absurd (omega arith)
   halvings-on (suc n) e h k = let d : suc n - 1 ≡ n = omega arith in rw (k, d)
 
-  pub halvings-stop : (n : ℕ) (e : Ends) → stops e ≡ true → halvings q rows n (stops e) e ≡ e
+  pub halvings-stop : (n : ℕ) (e : Ends) → stops e ≡ true → halvings cert n (stops e) e ≡ e
   unfolding halvings
   halvings-stop zero e k = refl
   halvings-stop (suc n) e k = rw k
 
-  pub halvings-done : (n : ℕ) (b : Bool) (e : Ends) → n ≤ 0 → halvings q rows n b e ≡ e
+  pub halvings-done : (n : ℕ) (b : Bool) (e : Ends) → n ≤ 0 → halvings cert n b e ≡ e
   unfolding halvings
   halvings-done zero b e h = refl
   halvings-done (suc n) b e h = absurd (omega arith)
@@ -37,29 +33,29 @@ module _ (q : Request) (rows : List Row) where
   replaced-tried e m (Passed n r) = refl
   replaced-tried e m Failed = refl
 
-  pub halved-tried : (e : Ends) → halved q rows e .tried ≡ e .tried + 1
+  pub halved-tried : (e : Ends) → halved cert e .tried ≡ e .tried + 1
   unfolding halved
-  halved-tried e = let m = middle (e .passing) (e .rejected) in replaced-tried e m (certificate q rows m)
+  halved-tried e = let m = middle (e .passing) (e .rejected) in replaced-tried e m (cert m)
 
   -- ---- neighbours: 6 less those that were tried are left
   module _ (s : Span) where
-    pub near-below : (n : ℕ) (b : Bool) (c : Certificate) (x : Float) (t : ℕ) → b ≡ true → neighbours q rows s n b c x t ≡ tryMiddle q rows s t
+    pub near-below : (n : ℕ) (b : Bool) (c : Certificate) (x : Float) (t : ℕ) → b ≡ true → neighbours cert s n b c x t ≡ tryMiddle cert s t
     unfolding neighbours
     near-below zero b c x t e = refl
     near-below (suc n) b c x t e = rw e
 
-    pub near-end : (n : ℕ) (b : Bool) (c : Certificate) (x : Float) (t : ℕ) → n ≤ 0 → neighbours q rows s n b c x t ≡ tryMiddle q rows s t
+    pub near-end : (n : ℕ) (b : Bool) (c : Certificate) (x : Float) (t : ℕ) → n ≤ 0 → neighbours cert s n b c x t ≡ tryMiddle cert s t
     unfolding neighbours
     near-end zero b c x t h = refl
     near-end (suc n) b c x t h = absurd (omega arith)
 
-    pub near-found : (n : ℕ) (b : Bool) (c : Certificate) (x : Float) (t : ℕ) (u v : Float) → 0 < n → b ≡ false → c ≡ Passed u v → neighbours q rows s n b c x t ≡ Certified x u v (t + 1)
+    pub near-found : (n : ℕ) (b : Bool) (c : Certificate) (x : Float) (t : ℕ) (u v : Float) → 0 < n → b ≡ false → c ≡ Passed u v → neighbours cert s n b c x t ≡ Certified x u v (t + 1)
     unfolding neighbours
     near-found zero b c x t u v h e f = absurd (omega arith)
     near-found (suc n) b c x t u v h e f = rw (e, f)
 
     pub near-on : (n : ℕ) (b : Bool) (c : Certificate) (x : Float) (t : ℕ) → 0 < n → b ≡ false → c ≡ Failed
-        → neighbours q rows s n b c x t ≡ neighbours q rows s (n - 1) (lt (nextDown binary64 x) (s .low)) (certificate q rows (nextDown binary64 x)) (nextDown binary64 x) (t + 1)
+        → neighbours cert s n b c x t ≡ neighbours cert s (n - 1) (lt (nextDown binary64 x) (s .low)) (cert (nextDown binary64 x)) (nextDown binary64 x) (t + 1)
     unfolding neighbours
     near-on zero b c x t h e f = absurd (omega arith)
     near-on (suc n) b c x t h e f = let d : suc n - 1 ≡ n = omega arith in rw (e, f, d)

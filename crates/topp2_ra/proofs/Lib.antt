@@ -1,5 +1,5 @@
 pub mod Numbers
-pub mod Judging
-pub mod Counting
+pub mod Entering
+pub mod Finding
 pub mod Halvings
 pub mod Tried

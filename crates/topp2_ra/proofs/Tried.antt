@@ -7,17 +7,19 @@ use lib.Ieee.{Float, binary64, lt}
 use lib.Ieee.Scale.{finite}
 use Rattle.number.specs.Leaves.{nextDown}
 use Rattle.loops.specs.Rows.{Row, rowsOf, any}
-use Rattle.topp2_ra.specs.Certificate.{certificate}
-use Rattle.topp2_ra.specs.Bounds.{upper}
-use Rattle.topp2_ra.specs.Search.{middle, stops, halved, halvings, afterMiddle, withMiddle, tryMiddle, neighbours, tryNeighbours, unreachable, flat, projected, searched}
-use Rattle.topp2_ra.specs.Recovery.{wholeRows, inputsGood, previousGood, currentGood, unfit, unmeetable, afterCap, withRows, recovered}
-use Rattle.topp2_ra.specs.declared.request.Request.{Request}
-use Rattle.topp2_ra.specs.declared.request.Answer.{Answer}
-use Rattle.topp2_ra.specs.declared.request.Answer.the-variants.{Certified, Refused}
-use Rattle.topp2_ra.specs.declared.projection.Span.{Span}
+use Rattle.limits.specs.Certificate.{certificate}
+use Rattle.limits.specs.Bounds.{upper}
+use Rattle.topp2_ra.specs.Search.{Asked, middle, stops, halved, halvings, afterMiddle, withMiddle, tryMiddle, neighbours, tryNeighbours, searched}
+use Rattle.limits.specs.Projection.{unreachable, flat, projected}
+use Rattle.topp2_ra.specs.Recovery.{wholeRows, inputsGood, previousGood, currentGood, afterCap, withRows, recovered}
+use Rattle.limits.specs.Row.{unfit, unmeetable}
+use Rattle.limits.specs.declared.request.Request.{Request}
+use Rattle.topp2_ra.specs.declared.answer.Answer.{Answer}
+use Rattle.topp2_ra.specs.declared.answer.Answer.the-variants.{Certified, Refused}
+use Rattle.limits.specs.declared.projection.Span.{Span}
 use Rattle.topp2_ra.specs.declared.halving.Ends.{Ends}
-use Rattle.topp2_ra.specs.declared.certificate.Certificate.{Certificate}
-use Rattle.topp2_ra.specs.declared.certificate.Certificate.the-variants.{Passed, Failed}
+use Rattle.limits.specs.declared.certificate.Certificate.{Certificate}
+use Rattle.limits.specs.declared.certificate.Certificate.the-variants.{Passed, Failed}
 use Rattle.topp2_ra.proofs.Halvings.{halved-tried}
 
 -- a certified answer's count is at least 1 and at most 71
@@ -29,45 +31,45 @@ either : (b : Bool) (x y : Answer) → TriedIn x → TriedIn y → TriedIn (cond
 either true x y h k = h
 either false x y h k = k
 
-module _ (q : Request) (rows : List Row) where
-  halvings-tried : (n : ℕ) (b : Bool) (e : Ends) → (e .tried ≤ halvings q rows n b e .tried) × (halvings q rows n b e .tried ≤ e .tried + n)
+module _ (cert : Asked) where
+  halvings-tried : (n : ℕ) (b : Bool) (e : Ends) → (e .tried ≤ halvings cert n b e .tried) × (halvings cert n b e .tried ≤ e .tried + n)
   unfolding halvings
   halvings-tried zero b e = (omega arith, omega arith)
   halvings-tried (suc n) true e = (omega arith, omega arith)
   halvings-tried (suc n) false e =
-      let h = halvings-tried n (stops (halved q rows e)) (halved q rows e) in
-      let t = halved-tried q rows e in
+      let h = halvings-tried n (stops (halved cert e)) (halved cert e) in
+      let t = halved-tried cert e in
       (omega arith, omega arith)
 
-  after-tried : (e : Ends) → 1 ≤ e .tried → e .tried ≤ 7 → TriedIn (afterMiddle q rows e)
+  after-tried : (e : Ends) → 1 ≤ e .tried → e .tried ≤ 7 → TriedIn (afterMiddle cert e)
   unfolding afterMiddle
   after-tried e l h = let t = halvings-tried 64 (stops e) e in (omega arith, omega arith)
 
-  middle-tried : (s : Span) (t : ℕ) → t ≤ 6 → TriedIn (tryMiddle q rows s t)
+  middle-tried : (s : Span) (t : ℕ) → t ≤ 6 → TriedIn (tryMiddle cert s t)
   unfolding tryMiddle withMiddle
-  middle-tried s t h = go (certificate q rows (middle (s .low) (s .high)))
+  middle-tried s t h = go (cert (middle (s .low) (s .high)))
     where
-      go : (c : Certificate) → TriedIn (withMiddle q rows s t c)
+      go : (c : Certificate) → TriedIn (withMiddle cert s t c)
       go Failed = tt
       go (Passed n r) = after-tried (record { passing = middle (s .low) (s .high); «worst_normalized» = n; «worst_raw» = r; rejected = s .high; tried = t + 1 }) (omega arith) (omega arith)
 
-  neighbours-tried : (s : Span) (n : ℕ) (b : Bool) (c : Certificate) (x : Float) (t : ℕ) → t + n ≤ 6 → TriedIn (neighbours q rows s n b c x t)
+  neighbours-tried : (s : Span) (n : ℕ) (b : Bool) (c : Certificate) (x : Float) (t : ℕ) → t + n ≤ 6 → TriedIn (neighbours cert s n b c x t)
   unfolding neighbours
   neighbours-tried s zero b c x t h = middle-tried s t (omega arith)
   neighbours-tried s (suc n) true c x t h = middle-tried s t (omega arith)
   neighbours-tried s (suc n) false (Passed a b) x t h = (omega arith, omega arith)
   neighbours-tried s (suc n) false Failed x t h =
       let y = nextDown binary64 x in
-      neighbours-tried s n (lt y (s .low)) (certificate q rows y) y (t + 1) (omega arith)
+      neighbours-tried s n (lt y (s .low)) (cert y) y (t + 1) (omega arith)
 
-  searched-tried : (s : Span) → TriedIn (searched q rows s)
+  searched-tried : (s : Span) → TriedIn (searched cert s)
   unfolding searched tryNeighbours
-  searched-tried s = either (finite (s .low) && (finite (s .high) && not (lt (s .high) (s .low)))) (tryNeighbours q rows s) (Refused 8) (neighbours-tried s 5 (lt (s .high) (s .low)) (certificate q rows (s .high)) (s .high) 1 (omega arith)) tt
+  searched-tried s = either (finite (s .low) && (finite (s .high) && not (lt (s .high) (s .low)))) (tryNeighbours cert s) (Refused 8) (neighbours-tried s 5 (lt (s .high) (s .low)) (cert (s .high)) (s .high) 1 (omega arith)) tt
 
-  cap-tried : (c : Certificate) → TriedIn (afterCap q rows c)
-  unfolding afterCap
-  cap-tried (Passed n r) = (omega arith, omega arith)
-  cap-tried Failed = either (any (unreachable q) rows) (Refused 7) _ tt (either (any (flat q) rows) (Refused 8) _ tt (searched-tried (projected q rows)))
+cap-tried : (q : Request) (rows : List Row) (c : Certificate) → TriedIn (afterCap q rows c)
+unfolding afterCap
+cap-tried q rows (Passed n r) = (omega arith, omega arith)
+cap-tried q rows Failed = either (any (unreachable q) rows) (Refused 7) _ tt (either (any (flat q) rows) (Refused 8) _ tt (searched-tried (certificate q rows) (projected q rows)))
 
 pub tried-in : (q : Request) (l : List Float) → TriedIn (recovered q l)
 unfolding recovered withRows

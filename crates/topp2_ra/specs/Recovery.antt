@@ -1,22 +1,24 @@
 -- The whole recovery: the refusals in 01's order, then the cap, then the search.
 use Prim.Native.Nat.{zero, _%_}
-use mathlib.Core.Bool.{Bool, not, _&&_, _||_, cond}
+use mathlib.Core.Bool.{Bool, not, _&&_, cond}
 use mathlib.Core.List.{List}
 use lib.Dec.{eqb, leb}
 use lib.ListN.{length}
 use lib.Ieee.{Float, lt, isNan}
 use lib.Ieee.Scale.{finite}
 use Rattle.loops.specs.Rows.{Row, rowsOf, any}
-use Rattle.topp2_ra.specs.Doubles as doubles
-use Rattle.topp2_ra.specs.Bounds.{lowerEnd, cappedBy, lower, upper, insidePrevious}
-use Rattle.topp2_ra.specs.Row.{empty, inv, rawTol, numbersFinite}
-use Rattle.topp2_ra.specs.Certificate.{certificate}
-use Rattle.topp2_ra.specs.Search.{unreachable, flat, projected, searched}
-use Rattle.topp2_ra.specs.declared.request.Request.{Request}
-use Rattle.topp2_ra.specs.declared.certificate.Certificate.{Certificate}
-use Rattle.topp2_ra.specs.declared.certificate.Certificate.the-variants.{Passed, Failed}
-use Rattle.topp2_ra.specs.declared.request.Answer.{Answer}
-use Rattle.topp2_ra.specs.declared.request.Answer.the-variants.{Certified, Refused}
+use Rattle.limits.specs.Doubles as doubles
+use Rattle.limits.specs.Bounds.{lowerEnd, cappedBy, lower, upper}
+use Rattle.topp2_ra.specs.Tolerant.{approxOrder, notLess, notGreater}
+use Rattle.limits.specs.Row.{unfit, unmeetable}
+use Rattle.limits.specs.Certificate.{certificate}
+use Rattle.limits.specs.Projection.{unreachable, flat, projected}
+use Rattle.topp2_ra.specs.Search.{searched}
+use Rattle.limits.specs.declared.request.Request.{Request}
+use Rattle.limits.specs.declared.certificate.Certificate.{Certificate}
+use Rattle.limits.specs.declared.certificate.Certificate.the-variants.{Passed, Failed}
+use Rattle.topp2_ra.specs.declared.answer.Answer.{Answer}
+use Rattle.topp2_ra.specs.declared.answer.Answer.the-variants.{Certified, Refused}
 
 -- 1: "list length no multiple of 3, or over 768"
 unfoldable pub wholeRows : List Float → Bool
@@ -35,6 +37,12 @@ inputsGood q =
     && ((finite (q .«a_prev») && (finite (q .«prev_backward» .lower) && finite (q .«prev_backward» .upper)))
     && noneNan (q .«curr_backward» .lower) (q .«curr_backward» .upper) (q .«prev_path_max») (q .«curr_path_max»))
 
+-- "a_prev must by tolerant comparison be neither less than its lower nor greater than its upper"
+unfoldable pub insidePrevious : Request → Float → Float → Bool
+insidePrevious q low high =
+    notLess (approxOrder (q .«a_prev») low (q .«a_cmp_abs_tol») (q .«a_cmp_rel_tol»))
+    && notGreater (approxOrder (q .«a_prev») high (q .«a_cmp_abs_tol») (q .«a_cmp_rel_tol»))
+
 -- 3: "previous lower or upper not finite, or a_prev outside"
 unfoldable pub previousGood : Request → Bool
 previousGood q =
@@ -46,21 +54,14 @@ previousGood q =
 unfoldable pub currentGood : Request → Bool
 currentGood q = finite (lower q) && (finite (upper q) && not (lt (upper q) (lower q)))
 
--- 5: "any row: a number not finite; norm not finite; norm not zero and 1/norm or raw_tol not finite"
-unfoldable pub unfit : Request → Row → Bool
-unfit q w = not (numbersFinite w && (empty w || (finite (inv w) && finite (rawTol q w))))
-
--- 6: "any row with norm zero and rhs < 0"
-unfoldable pub unmeetable : Row → Bool
-unmeetable w = empty w && lt (w .rhs) doubles.zero
-
 -- after the cap's certificate
 unfoldable pub afterCap : Request → List Row → Certificate → Answer
 afterCap q rows (Passed n r) = Certified (upper q) n r 1
 afterCap q rows Failed =
     cond (any (unreachable q) rows) (Refused 7)
-    (cond (any (flat q) rows) (Refused 8) (searched q rows (projected q rows)))
+    (cond (any (flat q) rows) (Refused 8) (searched (certificate q rows) (projected q rows)))
 
+-- refusals 5 and 6, of rows, come before the cap
 unfoldable pub withRows : Request → List Row → Answer
 withRows q rows =
     cond (any (unfit q) rows) (Refused 5)

@@ -1,44 +1,34 @@
--- What the private functions promise: steps towards the definitions that document 01 gives.
+-- What the private functions promise: the answer by the blocks of the table.
 use mathlib.Core.Bool.{Bool, _&&_, cond}
-use lib.Ieee.{Float}
-use Rattle.number.specs.Leaves.{maximum}
-use Rattle.loops.specs.Rows.{Row}
-use Rattle.topp2_ra.specs.Row.{norm, empty, inv, rawTol, normalized, raw, rawNormalized, admits}
-use Rattle.topp2_ra.specs.Search.{unreachable, flat}
-use Rattle.topp2_ra.specs.Recovery.{unfit, unmeetable}
-use Rattle.topp2_ra.specs.declared.request.Request.{Request}
-use Rattle.topp2_ra.specs.declared.row.Scale.{Scale}
-use Rattle.topp2_ra.specs.declared.row.Judged.{Judged}
-use Rattle.topp2_ra.specs.declared.row.Judged.the-variants.{Broken, Empty, Fits}
-use Rattle.topp2_ra.specs.declared.certificate.Certificate.{Certificate}
-use Rattle.topp2_ra.specs.declared.certificate.Certificate.the-variants.{Passed, Failed}
-use Rattle.topp2_ra.specs.declared.scan.Class.{Class}
-use Rattle.topp2_ra.specs.declared.scan.Class.the-variants.{Unfit, Unmeetable, Unreachable, Flat}
+use mathlib.Core.List.{List}
+use Rattle.loops.specs.Rows.{any}
+use Rattle.limits.specs.Bounds.{upper}
+use Rattle.limits.specs.Steps.{certificateOn, projectedOn, faulty}
+use Rattle.topp2_ra.specs.Search.{searched}
+use Rattle.topp2_ra.specs.Filling.{Found, someUnfit, someUnmeetable, allBlocks}
+use Rattle.limits.specs.declared.request.Request.{Request}
+use Rattle.limits.specs.declared.table.Block.{Block}
+use Rattle.limits.specs.declared.certificate.Certificate.{Certificate}
+use Rattle.limits.specs.declared.certificate.Certificate.the-variants.{Passed, Failed}
+use Rattle.topp2_ra.specs.declared.answer.Answer.{Answer}
+use Rattle.topp2_ra.specs.declared.answer.Answer.the-variants.{Certified, Refused}
+use Rattle.limits.specs.declared.scan.Class.the-variants.{Unreachable, Flat}
 
--- what depends on the row and the tolerance alone
-abbrev pub scaleOf : Request → Row → Scale
-scaleOf q w = record { norm = norm w; inv = inv w; «raw_tol» = rawTol q w }
+-- ---- the answer
+unfoldable pub afterCapOn : Request → List Block → Certificate → Answer
+afterCapOn q bs (Passed n r) = Certified (upper q) n r 1
+afterCapOn q bs Failed =
+    cond (any (faulty Unreachable (q .«feas_tol»)) bs) (Refused 7)
+    (cond (any (faulty Flat (q .«feas_tol»)) bs) (Refused 8) (searched (certificateOn q bs) (projectedOn q bs)))
 
--- one row: the verdict, and the residuals where there are any
-unfoldable pub judged : Request → Float → Row → Judged
-judged q x w = cond (admits q x w) (cond (empty w) Empty (Fits (normalized q x w) (rawNormalized q x w) (raw q x w))) Broken
+abbrev pub withTable : Request → List Block → Answer
+withTable q bs = afterCapOn q bs (certificateOn q bs (upper q))
 
--- one row more, counted in the certificate so far
-unfoldable pub counted : Certificate → Judged → Certificate
-counted Failed j = Failed
-counted (Passed a b) Broken = Failed
-counted (Passed a b) Empty = Passed a b
-counted (Passed a b) (Fits n w r) = Passed (maximum (maximum a n) w) (maximum b r)
+abbrev pub fromFound : Request → Found → Answer
+fromFound q someUnfit = Refused 5
+fromFound q someUnmeetable = Refused 6
+fromFound q (allBlocks bs) = withTable q bs
 
-abbrev pub countedRow : Request → Float → Certificate → Row → Certificate
-countedRow q x s w = counted s (judged q x w)
-
--- the classes of refused rows
-abbrev pub faulty : Class → Request → Row → Bool
-faulty Unfit q = unfit q
-faulty Unmeetable q = unmeetable
-faulty Unreachable q = unreachable q
-faulty Flat q = flat q
-
+-- three tests
 abbrev pub threeTrue : Bool → Bool → Bool → Bool
 threeTrue a b c = a && (b && c)

@@ -1,13 +1,14 @@
 // The middle, and what follows it: halvings between the passing middle and the rejected upper end.
-use crate::certificate;
-use crate::certificate::Certificate;
-use crate::projection::Span;
-use crate::request::Answer;
-use crate::request::Request;
+use crate::answer::Answer;
+use limits::certificate;
+use limits::certificate::Certificate;
+use limits::projection::Span;
+use limits::request::Request;
 ghost use mathlib.Core.Path.{_≡_};
 ghost use Prim.Native.Nat.{_<_, _≤_};
-ghost use Rattle.loops.specs.Rows.{rowsOf};
 ghost use Rattle.topp2_ra.specs.Search.{middle, stops, replaced, halved, halvings, afterMiddle, tryMiddle};
+ghost use Rattle.limits.specs.Table.{blocksOf};
+ghost use Rattle.limits.specs.Steps.{certificateOn};
 
 // The ends of the halving: one that passes, with its figures, and one that is rejected.
 pub struct Ends {
@@ -60,17 +61,17 @@ fn replace(e: Ends, m: f64, c: Certificate) -> Ends
     }
 }
 
-fn halve(q: Request, rows: &[f64], e: Ends) -> Ends
+fn halve(q: Request, table: &[f64], e: Ends) -> Ends
     requires { ⌜ e .tried < 1000 ⌝ }
-    ensures { λ r. ⌜ r ≡ halved q (rowsOf (now (rows .entry))) e ⌝ }
+    ensures { λ r. ⌜ r ≡ halved (certificateOn q (blocksOf (now (table .entry)))) e ⌝ }
 {
     let m = middle(e.passing, e.rejected);
-    replace(e, m, certificate::certify(q, rows, m))
+    replace(e, m, certificate::certify(q, table, m))
 }
 
-fn halve_all(q: Request, rows: &[f64], start: Ends) -> Ends
+fn halve_all(q: Request, table: &[f64], start: Ends) -> Ends
     requires { ⌜ start .tried < 900 ⌝ }
-    ensures { λ r. ⌜ r ≡ halvings q (rowsOf (now (rows .entry))) 64 (stops start) start ⌝ }
+    ensures { λ r. ⌜ r ≡ halvings (certificateOn q (blocksOf (now (table .entry)))) 64 (stops start) start ⌝ }
 {
     let mut e = start;
     let mut left = 64usize;
@@ -78,18 +79,18 @@ fn halve_all(q: Request, rows: &[f64], start: Ends) -> Ends
         if at_an_end(e) {
             return e;
         }
-        e = halve(q, rows, e);
+        e = halve(q, table, e);
         left -= 1;
     }
     e
 }
 
 // What follows a middle that passes. The passing end is the speed.
-fn after_middle(q: Request, rows: &[f64], start: Ends) -> Answer
+fn after_middle(q: Request, table: &[f64], start: Ends) -> Answer
     requires { ⌜ start .tried < 900 ⌝ }
-    ensures { λ a. ⌜ a ≡ afterMiddle q (rowsOf (now (rows .entry))) start ⌝ }
+    ensures { λ a. ⌜ a ≡ afterMiddle (certificateOn q (blocksOf (now (table .entry)))) start ⌝ }
 {
-    let e = halve_all(q, rows, start);
+    let e = halve_all(q, table, start);
     Answer::Certified {
         speed: e.passing,
         worst_normalized: e.worst_normalized,
@@ -98,19 +99,19 @@ fn after_middle(q: Request, rows: &[f64], start: Ends) -> Answer
     }
 }
 
-pub(crate) fn try_middle(q: Request, rows: &[f64], s: Span, tried: u64) -> Answer
+pub(crate) fn try_middle(q: Request, table: &[f64], s: Span, tried: u64) -> Answer
     requires { ⌜ tried ≤ 6 ⌝ }
-    ensures { λ a. ⌜ a ≡ tryMiddle q (rowsOf (now (rows .entry))) s tried ⌝ }
+    ensures { λ a. ⌜ a ≡ tryMiddle (certificateOn q (blocksOf (now (table .entry)))) s tried ⌝ }
 {
     let m = middle(s.low, s.high);
-    match certificate::certify(q, rows, m) {
+    match certificate::certify(q, table, m) {
         Certificate::Failed => Answer::Refused(9),
         Certificate::Passed {
             worst_normalized,
             worst_raw,
         } => after_middle(
             q,
-            rows,
+            table,
             Ends {
                 passing: m,
                 worst_normalized,

@@ -1,9 +1,10 @@
 // Refusals 2 to 4: what the record itself must keep.
-use crate::bounds;
-use crate::request::Request;
+use crate::tolerant;
+use limits::bounds;
+use limits::request::Request;
 use number::size;
 ghost use mathlib.Core.Path.{_≡_};
-ghost use Rattle.topp2_ra.specs.Recovery.{tolerance, noneNan, inputsGood, previousGood, currentGood};
+ghost use Rattle.topp2_ra.specs.Recovery.{tolerance, noneNan, inputsGood, insidePrevious, previousGood, currentGood};
 ghost use Rattle.topp2_ra.specs.Steps.{threeTrue};
 
 fn is_tolerance(t: f64) -> bool
@@ -62,6 +63,20 @@ pub(crate) fn inputs_good(q: Request) -> bool
     )
 }
 
+fn inside_previous(q: Request, low: f64, high: f64) -> bool
+    ensures { λ r. ⌜ r ≡ insidePrevious q low high ⌝ }
+{
+    if tolerant::not_less(tolerant::approx_order(q.a_prev, low, q.a_cmp_abs_tol, q.a_cmp_rel_tol)) {
+        return tolerant::not_greater(tolerant::approx_order(
+            q.a_prev,
+            high,
+            q.a_cmp_abs_tol,
+            q.a_cmp_rel_tol,
+        ));
+    }
+    false
+}
+
 pub(crate) fn previous_good(q: Request) -> bool
     ensures { λ r. ⌜ r ≡ previousGood q ⌝ }
 {
@@ -70,7 +85,7 @@ pub(crate) fn previous_good(q: Request) -> bool
     three_true(
         size::finite(low),
         size::finite(high),
-        bounds::inside_previous(q, low, high),
+        inside_previous(q, low, high),
     )
 }
 

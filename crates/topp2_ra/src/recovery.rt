@@ -1,20 +1,26 @@
 // `recover_forward_intersection`: the refusals in 01's order, then the cap, then the search.
-use crate::bounds;
-use crate::certificate;
-use crate::certificate::Certificate;
+use crate::answer::Answer;
+use crate::filling;
+use crate::filling::Filled;
 use crate::inputs;
 use crate::neighbours;
-use crate::projection;
-use crate::request::Answer;
-use crate::request::Request;
-use crate::scan;
-use crate::scan::Class;
+use limits::bounds;
+use limits::certificate;
+use limits::certificate::Certificate;
+use limits::projection;
+use limits::request::Request;
+use limits::scan;
+use limits::scan::Class;
 ghost use mathlib.Core.Path.{_≡_};
+ghost use Prim.Native.Nat.{_*_, _≤_};
+ghost use lib.ListN.{length};
 ghost use Rattle.loops.specs.Rows.{rowsOf};
-ghost use Rattle.topp2_ra.specs.Recovery.{afterCap, withRows, recovered};
+ghost use Rattle.topp2_ra.specs.Recovery.{withRows, recovered};
+ghost use Rattle.limits.specs.Table.{blocksOf};
+ghost use Rattle.topp2_ra.specs.Steps.{afterCapOn, withTable};
 
-fn after_cap(q: Request, rows: &[f64], c: Certificate) -> Answer
-    ensures { λ a. ⌜ a ≡ afterCap q (rowsOf (now (rows .entry))) c ⌝ }
+fn after_cap(q: Request, table: &[f64], c: Certificate) -> Answer
+    ensures { λ a. ⌜ a ≡ afterCapOn q (blocksOf (now (table .entry))) c ⌝ }
 {
     match c {
         Certificate::Passed {
@@ -27,28 +33,49 @@ fn after_cap(q: Request, rows: &[f64], c: Certificate) -> Answer
             tried: 1,
         },
         Certificate::Failed => {
-            if scan::any_faulty(Class::Unreachable, q, rows) {
+            if scan::any_faulty(Class::Unreachable, q.feas_tol, table) {
                 return Answer::Refused(7);
             }
-            if scan::any_faulty(Class::Flat, q, rows) {
+            if scan::any_faulty(Class::Flat, q.feas_tol, table) {
                 return Answer::Refused(8);
             }
-            neighbours::search(q, rows, projection::project(q, rows))
+            neighbours::search(q, table, projection::project(q, table))
         }
     }
 }
 
+fn with_table(q: Request, table: &[f64]) -> Answer
+    ensures { λ a. ⌜ a ≡ withTable q (blocksOf (now (table .entry))) ⌝ }
+{
+    after_cap(q, table, certificate::certify(q, table, bounds::upper(q)))
+}
+
 // Refusals 5 and 6, then the cap.
-fn with_rows(q: Request, rows: &[f64]) -> Answer
+fn on_table(q: Request, rows: &[f64], table: &mut [f64]) -> Answer
+    requires { ⌜ 8 * length (now rows) ≤ 3 * length (now table) ⌝ }
     ensures { λ a. ⌜ a ≡ withRows q (rowsOf (now (rows .entry))) ⌝ }
 {
-    if scan::any_faulty(Class::Unfit, q, rows) {
-        return Answer::Refused(5);
+    match filling::fill(q, rows, table) {
+        Filled::SomeUnfit => Answer::Refused(5),
+        Filled::SomeUnmeetable => Answer::Refused(6),
+        Filled::Ready(n) => {
+            let end = 8 * n;
+            with_table(q, &table[..end])
+        }
     }
-    if scan::any_faulty(Class::Unmeetable, q, rows) {
-        return Answer::Refused(6);
+}
+
+// A table of the size that is needed, so that a short list does not pay for a long one.
+fn with_rows(q: Request, rows: &[f64]) -> Answer
+    requires { ⌜ length (now rows) ≤ 768 ⌝ }
+    ensures { λ a. ⌜ a ≡ withRows q (rowsOf (now (rows .entry))) ⌝ }
+{
+    if rows.len() <= 96 {
+        let mut few = [0.0; 256];
+        return on_table(q, rows, &mut few);
     }
-    after_cap(q, rows, certificate::certify(q, rows, bounds::upper(q)))
+    let mut many = [0.0; 2048];
+    on_table(q, rows, &mut many)
 }
 
 pub fn recover_forward_intersection(q: Request, rows: &[f64]) -> Answer

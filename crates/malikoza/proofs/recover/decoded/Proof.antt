@@ -7,8 +7,8 @@ use borrow.Author.Tests.{lt-leb}
 use lib.Dec.{eqb, leb}
 use lib.ListN.{length}
 use Rattle.topp2_ra.specs.Recovery.{wholeRows, recovered}
-use Rattle.topp2_ra.specs.declared.request.Request.{Request}
-use Rattle.topp2_ra.specs.declared.request.Answer.the-variants.{Refused}
+use Rattle.limits.specs.declared.request.Request.{Request}
+use Rattle.topp2_ra.specs.declared.answer.Answer.the-variants.{Refused}
 use Rattle.byte_lists.specs.Bytes.{doublesOf}
 use Rattle.byte_lists.proofs.Fronts.{length-doubles, front-is, front-count}
 use borrow.Author.Needs.{needs}

@@ -1,8 +1,9 @@
 use Prim.Native.Nat.{_≤_, _+_, _-_}
 use mathlib.Core.Path.{_≡_, refl, sym, ap, _∙_}
 use native.Mathlib.Omega.{arith}
-use Rattle.loops.specs.Rows.{rowsOf}
 use Rattle.topp2_ra.specs.Search.{stops, halvings}
+use Rattle.limits.specs.Table.{blocksOf}
+use Rattle.limits.specs.Steps.{certificateOn}
 use Rattle.topp2_ra.specs.declared.halving.Ends.{Ends}
 use Rattle.topp2_ra.proofs.Halvings.{halvings-on, halvings-stop, halvings-done, halved-tried}
 use borrow.Author.Needs.{needs}
@@ -10,11 +11,11 @@ use Rattle.topp2_ra.proofs.halving.halve_all.Statement.{statement}
 use Rattle.topp2_ra.proofs.halving.halve_all.Tie as tie
 
 abbrev Inv-loop : tie.InvT-loop
-Inv-loop q rows e₀ left₀ e left =
-    (left ≤ 64) × (e .tried + left ≤ e₀ .tried + 64) × (halvings q (rowsOf rows) left (stops e) e ≡ halvings q (rowsOf rows) 64 (stops e₀) e₀)
+Inv-loop q table e₀ left₀ e left =
+    (left ≤ 64) × (e .tried + left ≤ e₀ .tried + 64) × (halvings (certificateOn q (blocksOf table)) left (stops e) e ≡ halvings (certificateOn q (blocksOf table)) 64 (stops e₀) e₀)
 
 abbrev μ-loop : tie.MeasureT-loop
-μ-loop q rows e₀ left₀ e left = left
+μ-loop q table e₀ left₀ e left = left
 
 loop-holds : tie.Need-loop-holds Inv-loop μ-loop
 loop-holds c =
@@ -27,7 +28,7 @@ returns : tie.Need-returns Inv-loop μ-loop
 returns c =
     let at = c .before .before .before in
     let a = at .before .before .args in
-    sym (halvings-stop (a .q) (rowsOf (a .rows .now)) (at .loop .left) (at .loop .e) (sym (c .before .at-an-end .ensures) ∙ c .if1 .taken)) ∙ at .loop .inv .2
+    sym (halvings-stop (certificateOn (a .q) (blocksOf (a .table .now))) (at .loop .left) (at .loop .e) (sym (c .before .at-an-end .ensures) ∙ c .if1 .taken)) ∙ at .loop .inv .2
 
 halve-requires : tie.Need-halve-requires Inv-loop μ-loop
 halve-requires c κs =
@@ -45,20 +46,20 @@ loop-again : tie.Need-loop-again Inv-loop μ-loop
 loop-again c =
     let at = c .before .before .before .before in
     let a = at .before .before .args in
-    let l = rowsOf (a .rows .now) in
+    let cert = certificateOn (a .q) (blocksOf (a .table .now)) in
     let e = at .loop .e in
     let h = c .halve .ensures in (
       omega arith,
-      omega (arith, ap (λ (x : Ends). x .tried) h, halved-tried (a .q) l e),
-      ap (λ (x : Ends). halvings (a .q) l (at .loop .left - 1) (stops x) x) h
-          ∙ (sym (halvings-on (a .q) l (at .loop .left) e (omega arith) (sym (c .before .before .at-an-end .ensures) ∙ c .before .if1 .left)) ∙ at .loop .inv .2),
+      omega (arith, ap (λ (x : Ends). x .tried) h, halved-tried cert e),
+      ap (λ (x : Ends). halvings cert (at .loop .left - 1) (stops x) x) h
+          ∙ (sym (halvings-on cert (at .loop .left) e (omega arith) (sym (c .before .before .at-an-end .ensures) ∙ c .before .if1 .left)) ∙ at .loop .inv .2),
     )
 
 returns-2 : tie.Need-returns-2 Inv-loop μ-loop
 returns-2 c =
     let at = c .before in
     let a = at .before .before .args in
-    sym (halvings-done (a .q) (rowsOf (a .rows .now)) (at .loop .left) (stops (at .loop .e)) (at .loop .e) (omega arith)) ∙ at .loop .inv .2
+    sym (halvings-done (certificateOn (a .q) (blocksOf (a .table .now))) (at .loop .left) (stops (at .loop .e)) (at .loop .e) (omega arith)) ∙ at .loop .inv .2
 
 pub halve-all-spec : {M : Type 1} → statement M
 halve-all-spec =

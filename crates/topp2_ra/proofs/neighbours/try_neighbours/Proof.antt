@@ -3,20 +3,20 @@ use mathlib.Core.Path.{_≡_, refl, sym, ap, _∙_}
 use native.Mathlib.Omega.{arith}
 use lib.Ieee.{Float, binary64, lt}
 use Rattle.number.specs.Leaves.{nextDown}
-use Rattle.loops.specs.Rows.{rowsOf}
-use Rattle.topp2_ra.specs.Certificate.{certificate}
 use Rattle.topp2_ra.specs.Search.{neighbours, tryNeighbours}
+use Rattle.limits.specs.Table.{blocksOf}
+use Rattle.limits.specs.Steps.{certificateOn}
 use Rattle.topp2_ra.proofs.Halvings.{near-below, near-end, near-found, near-on}
 use borrow.Author.Needs.{needs}
 use Rattle.topp2_ra.proofs.neighbours.try_neighbours.Statement.{statement}
 use Rattle.topp2_ra.proofs.neighbours.try_neighbours.Tie as tie
 
 abbrev Inv-loop : tie.InvT-loop
-Inv-loop q rows s x₀ tried₀ x tried =
-    (1 ≤ tried) × (tried ≤ 6) × (neighbours q (rowsOf rows) s (6 - tried) (lt x (s .low)) (certificate q (rowsOf rows) x) x tried ≡ tryNeighbours q (rowsOf rows) s)
+Inv-loop q table s x₀ tried₀ x tried =
+    (1 ≤ tried) × (tried ≤ 6) × (neighbours (certificateOn q (blocksOf table)) s (6 - tried) (lt x (s .low)) (certificateOn q (blocksOf table) x) x tried ≡ tryNeighbours (certificateOn q (blocksOf table)) s)
 
 abbrev μ-loop : tie.MeasureT-loop
-μ-loop q rows s x₀ tried₀ x tried = 6 - tried
+μ-loop q table s x₀ tried₀ x tried = 6 - tried
 
 loop-holds : tie.Need-loop-holds Inv-loop μ-loop
 unfolding tryNeighbours
@@ -31,7 +31,8 @@ returns : tie.Need-returns Inv-loop μ-loop
 returns c =
     let at = c .before .before .before .before in
     let a = at .before .before .args in
-    c .try-middle .ensures ∙ (sym (near-below (a .q) (rowsOf (a .rows .now)) (a .s) (6 - at .loop .tried) (lt (at .loop .x) (a .s .low)) (certificate (a .q) (rowsOf (a .rows .now)) (at .loop .x)) (at .loop .x) (at .loop .tried) (c .before .if1 .taken)) ∙ at .loop .inv .2)
+    let cert = certificateOn (a .q) (blocksOf (a .table .now)) in
+    c .try-middle .ensures ∙ (sym (near-below cert (a .s) (6 - at .loop .tried) (lt (at .loop .x) (a .s .low)) (cert (at .loop .x)) (at .loop .x) (at .loop .tried) (c .before .if1 .taken)) ∙ at .loop .inv .2)
 
 add-tried : tie.Need-add-tried Inv-loop μ-loop
 add-tried c =
@@ -48,7 +49,8 @@ returns-2 : tie.Need-returns-2 Inv-loop μ-loop
 returns-2 c =
     let at = c .before .before .before .before .before .before .before in
     let a = at .before .before .args in
-    sym (near-found (a .q) (rowsOf (a .rows .now)) (a .s) (6 - at .loop .tried) (lt (at .loop .x) (a .s .low)) (certificate (a .q) (rowsOf (a .rows .now)) (at .loop .x)) (at .loop .x) (at .loop .tried) _ _ (omega arith) (c .before .before .before .before .if1 .left) (sym (c .before .before .before .certify .ensures) ∙ c .before .worst-normalized .given .1)) ∙ at .loop .inv .2
+    let cert = certificateOn (a .q) (blocksOf (a .table .now)) in
+    sym (near-found cert (a .s) (6 - at .loop .tried) (lt (at .loop .x) (a .s .low)) (cert (at .loop .x)) (at .loop .x) (at .loop .tried) _ _ (omega arith) (c .before .before .before .before .if1 .left) (sym (c .before .before .before .certify .ensures) ∙ c .before .worst-normalized .given .1)) ∙ at .loop .inv .2
 
 enum-told : tie.Need-enum-told Inv-loop μ-loop
 enum-told c =
@@ -65,14 +67,14 @@ loop-again : tie.Need-loop-again Inv-loop μ-loop
 loop-again c =
     let at = c .before .before .before .before .before .before .before in
     let a = at .before .before .args in
-    let l = rowsOf (a .rows .now) in
+    let cert = certificateOn (a .q) (blocksOf (a .table .now)) in
     let t = at .loop .tried in
     let d : 6 - t - 1 ≡ 6 - (t + 1) = omega arith in (
       omega arith,
       omega arith,
-      ap (λ (y : Float). neighbours (a .q) l (a .s) (6 - (t + 1)) (lt y (a .s .low)) (certificate (a .q) l y) y (t + 1)) (c .next-down .ensures)
-          ∙ ap (λ (k : ℕ). neighbours (a .q) l (a .s) k (lt (nextDown binary64 (at .loop .x)) (a .s .low)) (certificate (a .q) l (nextDown binary64 (at .loop .x))) (nextDown binary64 (at .loop .x)) (t + 1)) (sym d)
-          ∙ (sym (near-on (a .q) (rowsOf (a .rows .now)) (a .s) (6 - at .loop .tried) (lt (at .loop .x) (a .s .low)) (certificate (a .q) (rowsOf (a .rows .now)) (at .loop .x)) (at .loop .x) (at .loop .tried) (omega arith) (c .before .before .before .before .if1 .left) (sym (c .before .before .before .certify .ensures) ∙ c .before .enum-told .given .1)) ∙ at .loop .inv .2),
+      ap (λ (y : Float). neighbours cert (a .s) (6 - (t + 1)) (lt y (a .s .low)) (cert y) y (t + 1)) (c .next-down .ensures)
+          ∙ ap (λ (k : ℕ). neighbours cert (a .s) k (lt (nextDown binary64 (at .loop .x)) (a .s .low)) (cert (nextDown binary64 (at .loop .x))) (nextDown binary64 (at .loop .x)) (t + 1)) (sym d)
+          ∙ (sym (near-on cert (a .s) (6 - at .loop .tried) (lt (at .loop .x) (a .s .low)) (cert (at .loop .x)) (at .loop .x) (at .loop .tried) (omega arith) (c .before .before .before .before .if1 .left) (sym (c .before .before .before .certify .ensures) ∙ c .before .enum-told .given .1)) ∙ at .loop .inv .2),
     )
 
 try-middle-requires-2 : tie.Need-try-middle-requires-2 Inv-loop μ-loop
@@ -83,7 +85,8 @@ returns-3 : tie.Need-returns-3 Inv-loop μ-loop
 returns-3 c =
     let at = c .before .before in
     let a = at .before .before .args in
-    c .try-middle2 .ensures ∙ (sym (near-end (a .q) (rowsOf (a .rows .now)) (a .s) (6 - at .loop .tried) (lt (at .loop .x) (a .s .low)) (certificate (a .q) (rowsOf (a .rows .now)) (at .loop .x)) (at .loop .x) (at .loop .tried) (omega arith)) ∙ at .loop .inv .2)
+    let cert = certificateOn (a .q) (blocksOf (a .table .now)) in
+    c .try-middle2 .ensures ∙ (sym (near-end cert (a .s) (6 - at .loop .tried) (lt (at .loop .x) (a .s .low)) (cert (at .loop .x)) (at .loop .x) (at .loop .tried) (omega arith)) ∙ at .loop .inv .2)
 
 pub try-neighbours-spec : {M : Type 1} → statement M
 try-neighbours-spec =

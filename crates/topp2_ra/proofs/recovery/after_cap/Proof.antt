@@ -1,4 +1,4 @@
-use Rattle.topp2_ra.specs.Recovery.{afterCap}
+use Rattle.topp2_ra.specs.Steps.{afterCapOn}
 use borrow.Author.Needs.{needs}
 use Rattle.topp2_ra.proofs.recovery.after_cap.Statement.{statement}
 use Rattle.topp2_ra.proofs.recovery.after_cap.Tie as tie
@@ -16,7 +16,7 @@ any-faulty-requires : tie.Need-any-faulty-requires
 any-faulty-requires c κs = search needs
 
 returns : tie.Need-returns
-unfolding afterCap
+unfolding afterCapOn
 returns c =
     simp (c .before .before .enum-told .given .1, ← c .before .any-faulty .ensures, c .if1 .taken)
 
@@ -24,7 +24,7 @@ any-faulty-requires-2 : tie.Need-any-faulty-requires-2
 any-faulty-requires-2 c κs = search needs
 
 returns-2 : tie.Need-returns-2
-unfolding afterCap
+unfolding afterCapOn
 returns-2 c =
     simp (
       c .before .before .before .before .enum-told .given .1,
@@ -41,12 +41,12 @@ search-requires : tie.Need-search-requires
 search-requires c κs = search needs
 
 returns-3 : tie.Need-returns-3
-unfolding afterCap
+unfolding afterCapOn
 returns-3 c =
     simp (c .before .before .c .given .1, ← c .upper .ensures)
 
 returns-4 : tie.Need-returns-4
-unfolding afterCap
+unfolding afterCapOn
 returns-4 c =
     simp (
       c .before .before .before .before .before .before .enum-told .given .1,

@@ -1,0 +1,5 @@
+pub mod Blocks
+pub mod Worst
+pub mod Within
+pub mod Counting
+pub mod Scanning

@@ -1,0 +1,17 @@
+use Rattle.limits.specs.Steps.{within}
+use Rattle.limits.proofs.Within.{minus-infinity}
+use Rattle.limits.proofs.certificate.within.Statement.{statement}
+use Rattle.limits.proofs.certificate.within.Tie as tie
+
+returns : tie.Need-returns
+unfolding within
+returns c =
+    simp (← minus-infinity, c .if1 .taken)
+
+returns-2 : tie.Need-returns-2
+unfolding within
+returns-2 c =
+    simp (← minus-infinity, c .if1 .left)
+
+pub within-spec : {M : Type 1} → statement M
+within-spec = tie.close (tie.spec returns returns-2)

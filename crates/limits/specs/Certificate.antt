@@ -1,0 +1,36 @@
+-- The certificate for x: the verdict, and the worst figures, which are separate definitions over the same rows.
+use mathlib.Core.Bool.{Bool, _&&_, cond}
+use mathlib.Core.List.{List}
+use lib.Ieee.{Float, le}
+use lib.Ieee.Scale.{finite}
+use Rattle.number.specs.Leaves.{maximum}
+use Rattle.loops.specs.Rows.{Row, fold, all}
+use Rattle.limits.specs.Doubles.{zero}
+use Rattle.limits.specs.Bounds.{lower, upper}
+use Rattle.limits.specs.Row.{empty, normalized, raw, rawNormalized, admits}
+use Rattle.limits.specs.declared.request.Request.{Request}
+use Rattle.limits.specs.declared.certificate.Certificate.{Certificate}
+use Rattle.limits.specs.declared.certificate.Certificate.the-variants.{Passed, Failed}
+
+-- "lower ≤ x ≤ upper", x finite besides, and every row admits x
+unfoldable pub between : Request → Float → Bool
+between q x = finite x && (le (lower q) x && le x (upper q))
+
+unfoldable pub passes : Request → List Row → Float → Bool
+passes q rows x = between q x && all (admits q x) rows
+
+-- "The worst figures start at +0: one is the maximum of first and third over the rows, one of the second." An empty row has none.
+unfoldable pub worseNormalized : Request → Float → Float → Row → Float
+worseNormalized q x worst w = cond (empty w) worst (maximum (maximum worst (normalized q x w)) (rawNormalized q x w))
+
+unfoldable pub worseRaw : Request → Float → Float → Row → Float
+worseRaw q x worst w = cond (empty w) worst (maximum worst (raw q x w))
+
+abbrev pub worstNormalized : Request → List Row → Float → Float
+worstNormalized q rows x = fold (worseNormalized q x) zero rows
+
+abbrev pub worstRaw : Request → List Row → Float → Float
+worstRaw q rows x = fold (worseRaw q x) zero rows
+
+unfoldable pub certificate : Request → List Row → Float → Certificate
+certificate q rows x = cond (passes q rows x) (Passed (worstNormalized q rows x) (worstRaw q rows x)) Failed

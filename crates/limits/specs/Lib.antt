@@ -1,0 +1,8 @@
+-- Document 01, "Recovery": bounds, certificate and projection, in its order.
+pub mod Doubles
+pub mod Bounds
+pub mod Row
+pub mod Certificate
+pub mod Projection
+pub mod Table
+pub mod Steps
