@@ -1,4 +1,4 @@
-//! Tells cargo where libmalikoza.a is: in target/staticlib of this repository, or in the folder that MALIKOZA_LIB_DIR names.
+//! Tells cargo where libmalikoza.a is: in target/staticlib of this repository, or in the folder whose full path MALIKOZA_LIB_DIR is.
 
 use std::env;
 use std::path::PathBuf;

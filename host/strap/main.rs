@@ -50,7 +50,7 @@ fn print_corner(most: f64) {
     println!("\nA corner where the knife must keep 20 mm/s and the arm allows {most} mm/s:");
     match recover(&request, &rows) {
         Ok(found) => println!("  take it at {:.2} mm/s ({} speeds tried)", sqrt(found.speed), found.tried),
-        Err(refusal) => println!("  no speed: refusal {}, {refusal}", refusal.number()),
+        Err(refusal) => println!("  no speed: refusal {}", refusal.number()),
     }
 }
 

@@ -45,10 +45,11 @@ static void print_corner(double most) {
         {1, 0, most * most},      /* the arm must not be faster than this, or it shakes */
         {-1, 1, 2.0 * 80 * 7.5},  /* it brakes by at most 80 mm/s each second, over 7.5 mm */
     };
-    const uint64_t zero = pattern(0), top = pattern(6400), near = pattern(1e-9);
+    const uint64_t zero = pattern(0), top = pattern(6400), tolerance = pattern(1e-9);
     uint64_t speed, worst_normalized, worst_raw, tried;
-    uint64_t refusal = malikoza_recover(pattern(40 * 40), zero, top, top, zero, top, pattern(30 * 30), near, near, near,
-                                        LIST(rows), &speed, &worst_normalized, &worst_raw, &tried);
+    uint64_t refusal = malikoza_recover(pattern(40 * 40), zero, top, top, zero, top, pattern(30 * 30),
+                                        tolerance, tolerance, tolerance, LIST(rows),
+                                        &speed, &worst_normalized, &worst_raw, &tried);
     printf("\nA corner where the knife must keep 20 mm/s and the arm allows %g mm/s:\n", most);
     if (refusal == 0)
         printf("  take it at %.2f mm/s (%d speeds tried)\n", number(malikoza_sqrt(speed)), (int)tried);
@@ -68,8 +69,8 @@ int main(void) {
     for (int i = 0; i < STATIONS; i++)
         printf("%8.1f%8.1f%10.2f\n", s[i], number(malikoza_sqrt(pattern(a[i]))), t[i]);
 
-    must(malikoza_t_to_s_grid(LIST(s), LIST(a), LIST(t), pattern(t[0]), pattern(step), 1, ROOM(places), &before, &inside, &past,
-                              &written));
+    must(malikoza_t_to_s_grid(LIST(s), LIST(a), LIST(t), pattern(t[0]), pattern(step), 1, ROOM(places),
+                              &before, &inside, &past, &written));
     printf("\nWhere the knife is at each tenth of a second, the strap's end last:\n\n after s     at mm\n");
     for (int i = 0; i < (int)inside; i++)
         printf("%8.1f%10.2f\n", t[0] + i * step, places[i]);

@@ -1,4 +1,4 @@
-//! The least stack on which each entry answers: `cargo run --release --example stack`.
+//! The least stack on which calls of each entry return: `cargo run --release --example stack`.
 //!
 //! A thread that runs out of stack takes its process with it, so each try is a process of its own: this program, started again with the place of a call and a
 //! number of KiB. What is printed is the least thread on which the call returned; of its stack the thread and its caller take a few KiB themselves. The system
@@ -51,16 +51,24 @@ fn kept(answer: f64) -> Option<Refusal> {
     None
 }
 
-/// The largest answer of each entry, and the refusals that are told apart from it: they may go deeper.
-const CALLS: [(&str, Call); 14] = [
+/// The largest answer of each entry, and refusals on the way to it: they may go deeper.
+const CALLS: [(&str, Call); 22] = [
     ("no call", |_| None),
     ("sqrt", |l| kept(malikoza::sqrt(l.rows[0][0]))),
     ("fma", |l| kept(malikoza::fma(l.rows[0][0], l.rows[0][1], l.rows[0][2]))),
     ("hypot", |l| kept(malikoza::hypot(l.rows[0][0], l.rows[0][1]))),
+    ("next_down", |l| kept(malikoza::next_down(l.rows[0][0]))),
+    ("minimum", |l| kept(malikoza::minimum(l.rows[0][0], l.rows[0][1]))),
+    ("maximum", |l| kept(malikoza::maximum(l.rows[0][0], l.rows[0][1]))),
+    ("absolute", |l| kept(malikoza::absolute(l.rows[0][0]))),
+    ("whole_part", |l| kept(malikoza::whole_part(l.rows[0][2]) as f64)),
     ("recover, 256 rows, searched", |l| recover(&REQUEST, &l.rows).map(|found| assert!(found.tried > 6)).err()),
+    ("recover, a row that no speed meets", |l| recover(&REQUEST, &[&l.rows[1..], &[[-1.0, 0.0, -5.0]]].concat()).err()),
     ("a_to_b, 4,096 stations", |l| a_to_b(&l.s, &l.a, &mut l.out).err()),
     ("a_to_b, a of another length", |l| a_to_b(&l.s, &l.a[1..], &mut l.out).err()),
     ("s_to_t, 4,096 stations", |l| s_to_t(&l.s, &l.a, 0.0, &mut l.out).err()),
+    ("s_to_t, a of another length", |l| s_to_t(&l.s, &l.a[1..], 0.0, &mut l.out).err()),
+    ("s_to_t, t0 not finite", |l| s_to_t(&l.s, &l.a, f64::NAN, &mut l.out).err()),
     ("t_to_s_list, 65,536 samples", |l| t_to_s_list(&l.s, &l.a, &l.s, &l.samples[1..], &mut l.out).err()),
     ("t_to_s_list, 65,537 samples", |l| t_to_s_list(&l.s, &l.a, &l.s, &l.samples, &mut l.out).err()),
     ("t_to_s_list, t of another length", |l| t_to_s_list(&l.s, &l.a, &l.s[1..], &l.samples, &mut l.out).err()),

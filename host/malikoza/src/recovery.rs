@@ -48,9 +48,9 @@ pub struct Recovered {
 
 /// The squared speed at the current station that its cap and its rows allow, certified.
 ///
-/// A row is coef_curr, coef_prev, rhs: it admits the speed x if coef_curr·x + coef_prev·a_prev is at most rhs, within `feas_tol`. The cap is tried first; where
-/// it fails, the rows give a projected upper end, and a speed that passes is searched for from there down. Neither the order of the rows nor how often one is
-/// given changes the answer.
+/// A row is coef_curr, coef_prev, rhs: it admits the speed x if coef_curr·x + coef_prev·a_prev is at most rhs, within `feas_tol`. The cap is tried first;
+/// where it fails, the rows give a projected upper end, and a speed that passes is searched for from there down. Neither the order of the rows nor how often
+/// one is given changes the answer.
 ///
 /// Refuses with 1 to 9, in that order.
 ///

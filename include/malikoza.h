@@ -1,0 +1,173 @@
+/* Malikoza tells a hot knife on a robot how fast it may go, and where it is when.
+ *
+ * Link with libmalikoza.a (x86-64). Every entry is total: nothing traps, nothing hangs, and what cannot be answered is
+ * refused by a number. The entries keep no state, so several threads may call them at once.
+ *
+ * Doubles pass in two ways:
+ *   - one double as its 64-bit pattern in a uint64_t (copy it with memcpy);
+ *   - many doubles as a byte list: a pointer, then a length in BYTES. Each double is eight bytes, low byte first. On x86-64
+ *     an array of doubles is such a list already: pass (const uint8_t *)array and sizeof array. No alignment is needed.
+ *
+ * NaN: every NaN pattern, of either sign and any payload, reads as NaN; a NaN is always written 7FF8000000000000.
+ *
+ * An entry that can refuse returns 0, or the refusal number. Success writes the front of the output and no more; a refusal
+ * writes nothing, neither to the output nor to the numbers lent beside it.
+ *
+ * The caller answers for what no entry can test:
+ *   - a pointer is not NULL, even where its length is 0, and as many bytes as its length says stand behind it;
+ *   - what an entry writes to overlaps nothing else that it is given;
+ *   - the processor rounds to nearest and keeps subnormals, as it does unless a program changes that (linking with gcc's
+ *     -ffast-math does);
+ *   - the thread has stack enough.
+ *
+ * Stack, in KiB, as measured: the least thread (Linux, x86-64) on which the largest call returned, and such refused ones as
+ * go deeper. The example `stack` of host/malikoza measures it.
+ *
+ *   malikoza_t_to_s_list    1224
+ *   malikoza_t_to_s_grid     712
+ *   malikoza_s_to_t          136
+ *   malikoza_a_to_b          104
+ *   malikoza_recover          28
+ *   every other entry         16, the least thread there is
+ */
+#ifndef MALIKOZA_H
+#define MALIKOZA_H
+
+#include <stddef.h>
+#include <stdint.h>
+
+#ifdef __cplusplus
+extern "C" {
+#endif
+
+/* Limits. Stations are 2 at least, samples of a list 1. */
+enum {
+    MALIKOZA_MOST_ROWS = 256,
+    MALIKOZA_MOST_STATIONS = 4096,
+    MALIKOZA_MOST_SAMPLES = 65536 /* the final station of a grid not counted */
+};
+
+/* Refusals. */
+enum {
+    /* Recovery, in this order, after 10: */
+    MALIKOZA_ROWS_LENGTH = 1,                /* list length no multiple of 3, or over 768 */
+    MALIKOZA_REQUEST_NUMBER = 2,             /* a tolerance not finite or negative; a_prev or a previous interval end
+                                                not finite; a current end or path cap NaN */
+    MALIKOZA_PREVIOUS_STATION = 3,           /* previous lower or upper not finite, or a_prev outside */
+    MALIKOZA_CURRENT_BOUNDS = 4,             /* lower or upper not finite, or lower > upper */
+    MALIKOZA_ROW_NUMBER = 5,                 /* any row: a number not finite; norm not finite; norm not zero and
+                                                1/norm or raw_tol not finite */
+    MALIKOZA_ROW_IMPOSSIBLE = 6,             /* any row with norm zero and rhs < 0 */
+    MALIKOZA_PROJECTION_NOT_FINITE = 7,      /* cap failed, and r of any row not finite */
+    MALIKOZA_PROJECTION_EMPTY = 8,           /* a row with c zero and r < 0, or a projected end not finite, or low >
+                                                high */
+    MALIKOZA_MIDDLE_FAILS = 9,               /* middle fails after the neighbours failed */
+
+    /* Every entry that takes a byte list: */
+    MALIKOZA_NOT_EIGHTS = 10,                /* C boundary only, recovery too: a byte list, output included, of a
+                                                length not divisible by eight; before all others */
+
+    /* Stations s, squared speeds a, times; each entry says which it gives, in which order: */
+    MALIKOZA_STATION_COUNT = 11,             /* fewer than 2 stations or more than 4,096 */
+    MALIKOZA_SPEED_COUNT = 12,               /* a of another length */
+    MALIKOZA_STATION_NOT_FINITE = 13,        /* s with an entry not finite */
+    MALIKOZA_SPEED_NOT_FINITE = 14,          /* a with an entry not finite */
+    MALIKOZA_STATIONS_NOT_INCREASING = 15,   /* s not strictly increasing */
+    MALIKOZA_START_NOT_FINITE = 16,          /* t0 not finite */
+    MALIKOZA_SPEED_NEGATIVE = 17,            /* an a below zero (minus zero is not) */
+    MALIKOZA_STANDSTILL = 18,                /* two neighbouring a both zero */
+    MALIKOZA_COMPUTED_TIME_NOT_FINITE = 19,  /* a computed time not finite */
+    MALIKOZA_TIME_COUNT = 20,                /* time list: other length */
+    MALIKOZA_TIME_NOT_FINITE = 21,           /* time list: not finite */
+    MALIKOZA_TIMES_NOT_INCREASING = 22,      /* time list: not strictly increasing */
+    MALIKOZA_STEP_NOT_FINITE = 23,           /* dt not finite */
+    MALIKOZA_STEP_NOT_POSITIVE = 24,         /* dt <= 0 */
+    MALIKOZA_NO_SAMPLES = 25,                /* sample list: empty */
+    MALIKOZA_SAMPLE_NOT_FINITE = 26,         /* sample list: not finite */
+    MALIKOZA_SAMPLES_NOT_INCREASING = 27,    /* sample list: not strictly increasing */
+    MALIKOZA_TOO_MANY_SAMPLES = 28,          /* more than 65,536 samples */
+    MALIKOZA_OUTPUT_TOO_SHORT = 29           /* output shorter than needed */
+};
+
+/* Number leaves. They take and return patterns, write nothing and refuse nothing. "Nearest" is the closest double, ties to
+ * even; an exact size of 2^1024 - 2^970 or more gives infinity. */
+
+/* The double nearest to the square root of x; a zero and plus infinity give themselves, other negatives and NaN give NaN. */
+uint64_t malikoza_sqrt(uint64_t x);
+
+/* The double nearest to xy + z, rounded once; zeros, infinities and NaN as IEEE 754 has them. */
+uint64_t malikoza_fma(uint64_t x, uint64_t y, uint64_t z);
+
+/* The double nearest to the root of x*x + y*y; an infinite part gives plus infinity, else a NaN part gives NaN. */
+uint64_t malikoza_hypot(uint64_t x, uint64_t y);
+
+/* The next smaller double; both zeros go to -2^-1074, minus infinity and NaN stay. */
+uint64_t malikoza_next_down(uint64_t x);
+
+/* The lesser of two; a NaN yields the other operand, minus zero counts below plus zero. */
+uint64_t malikoza_minimum(uint64_t x, uint64_t y);
+
+/* The greater of two; a NaN yields the other operand, minus zero counts below plus zero. */
+uint64_t malikoza_maximum(uint64_t x, uint64_t y);
+
+/* The double without its sign. */
+uint64_t malikoza_absolute(uint64_t x);
+
+/* The whole part, as the number itself and no pattern: 0 below 1 and for NaN, 2^64 - 1 from 2^64 up. */
+uint64_t malikoza_whole_part(uint64_t x);
+
+/* Recovery: the speed at the current station that the cap and the rows allow, certified.
+ *
+ * All speeds here are squared. A row is three doubles, coef_curr, coef_prev, rhs, and admits the speed x if
+ * coef_curr*x + coef_prev*a_prev is at most rhs, within feas_tol; rows_len is 24 bytes a row, 256 rows at most, and no rows
+ * is a valid list. lower is the maximum of curr_lower and +0; upper, the cap, is the minimum of curr_upper and curr_cap; for
+ * the previous station likewise, and a_prev must lie between its two, compared within a_cmp_abs_tol and a_cmp_rel_tol.
+ *
+ * Writes the speed, the worst normalized and the worst raw residual (patterns), and the number of candidates tried, 1 to 71
+ * (the number itself). Refuses with 10, then 1 to 9 in order; 9 doesn't say that no double passes. */
+uint64_t malikoza_recover(uint64_t a_prev, uint64_t prev_lower, uint64_t prev_upper, uint64_t prev_cap,
+                          uint64_t curr_lower, uint64_t curr_upper, uint64_t curr_cap,
+                          uint64_t feas_tol, uint64_t a_cmp_abs_tol, uint64_t a_cmp_rel_tol,
+                          const uint8_t *rows, size_t rows_len,
+                          uint64_t *speed, uint64_t *worst_normalized, uint64_t *worst_raw, uint64_t *tried);
+
+/* The acceleration along the path, 0.5*(a1 - a0)/(s1 - s0), between each pair of neighbouring stations.
+ *
+ * Writes one double fewer than there are stations. Refuses with 10, 11 to 15, 29. */
+uint64_t malikoza_a_to_b(const uint8_t *s, size_t s_len, const uint8_t *a, size_t a_len, uint8_t *out, size_t out_len);
+
+/* The time at each station: t0 at the first, then 2*(s1 - s0)/(root a0 + root a1) more for each pair.
+ *
+ * Writes one double for each station. Refuses with 10, 11 to 18, 29, 19. */
+uint64_t malikoza_s_to_t(const uint8_t *s, size_t s_len, const uint8_t *a, size_t a_len, uint64_t t0,
+                         uint8_t *out, size_t out_len);
+
+/* Where the knife is at each time of a list; NaN before the first time and past the last.
+ *
+ * t holds the times of the stations, as malikoza_s_to_t gives them. Writes one double for each sample; how many samples were
+ * before, inside and past; and the number of doubles written. Refuses with 10, 11 to 15, 17, 18, 20 to 22, 25, 28, 26, 27,
+ * 29. */
+uint64_t malikoza_t_to_s_list(const uint8_t *s, size_t s_len, const uint8_t *a, size_t a_len,
+                              const uint8_t *t, size_t t_len, const uint8_t *samples, size_t samples_len,
+                              uint8_t *out, size_t out_len,
+                              uint64_t *before, uint64_t *inside, uint64_t *past, uint64_t *written);
+
+/* Where the knife is at each time of an even grid; NaN before the first time and past the last.
+ *
+ * The grid's times are t0 + i*dt for i from 0 to n-1, n being the whole part of (last time - t0)/dt, 0 if that is below 1.
+ * with_final: 0 is no, anything else is yes. With the final asked for, the last station is added: where no sample was made,
+ * if t0 is not above the last time; else if the last entry is less than the last station (a NaN isn't).
+ *
+ * Writes one double for each time of the grid and the final station where it is added; how many times were before, inside
+ * and past (an added final is none); and the number of doubles written. The output must have room for n doubles, and for one
+ * more if the final is asked for, added or not. Refuses with 10, 11 to 15, 17, 18, 20 to 22, 16, 23, 24, 28, 29. */
+uint64_t malikoza_t_to_s_grid(const uint8_t *s, size_t s_len, const uint8_t *a, size_t a_len,
+                              const uint8_t *t, size_t t_len, uint64_t t0, uint64_t dt, uint8_t with_final,
+                              uint8_t *out, size_t out_len,
+                              uint64_t *before, uint64_t *inside, uint64_t *past, uint64_t *written);
+
+#ifdef __cplusplus
+}
+#endif
+
+#endif
