@@ -7,6 +7,7 @@ use Prim.Native.Nat.{ℕ, _+_, _*_, _≤_, _<_}
 use native.Mathlib.Nat.{le-of-eq, le-of-lt, eq-or-lt-of-le, zero-mul, mul-comm, mul-assoc, mul-left-comm, mul-add, add-mul, mul-pos, mul-le-mul-right, mul-lt-mul-of-pos-right, le-of-mul-le-mul-right, lt-of-mul-lt-mul-right}
 use native.Mathlib.Omega.{arith}
 use lib.Dec.{T, eqb, eqb→eq, ltb→lt, lt→ltb}
+use lib.IntN.{ℤ}
 use lib.Ieee.{Float, nan, inf, fin, up, down, below, level, le, lt}
 use lib.Ieee.Fits.{and-l, and-r, and-i, eq→eqb}
 use lib.Ieee.Exact.{HasValue}
@@ -97,37 +98,43 @@ AtMost p n d p' n' d' = p * d' + n' * d ≤ p' * d + n * d'
 abbrev pub Below : ℕ → ℕ → ℕ → ℕ → ℕ → ℕ → Type 0
 Below p n d p' n' d' = p * d' + n' * d < p' * d + n * d'
 
-pub le→AtMost : (x y : Float) → T (finite x) → T (finite y) → T (le x y) → AtMost (plusPart x) (minusPart x) (den x) (plusPart y) (minusPart y) (den y)
+-- what holds of two significands with their exponents holds of two finite doubles
+both-finite : (P : Float → Float → Type 0) → ((s : Bool) (m : ℕ) (e : ℤ) (t : Bool) (n : ℕ) (d : ℤ) → P (fin s m e) (fin t n d)) → (x y : Float) → T (finite x) → T (finite y) → P x y
+both-finite P f nan y a b = absurd a
+both-finite P f (inf s) y a b = absurd a
+both-finite P f (fin s m e) nan a b = absurd b
+both-finite P f (fin s m e) (inf t) a b = absurd b
+both-finite P f (fin s m e) (fin t n d) a b = f s m e t n d
+
+abbrev FloatsAtMost : Float → Float → Type 0
+FloatsAtMost x y = AtMost (plusPart x) (minusPart x) (den x) (plusPart y) (minusPart y) (den y)
+
+abbrev FloatsBelow : Float → Float → Type 0
+FloatsBelow x y = Below (plusPart x) (minusPart x) (den x) (plusPart y) (minusPart y) (den y)
+
+pub le→AtMost : (x y : Float) → T (finite x) → T (finite y) → T (le x y) → FloatsAtMost x y
 unfolding le
-le→AtMost nan y a b h = absurd a
-le→AtMost (inf s) y a b h = absurd a
-le→AtMost (fin s m e) nan a b h = absurd b
-le→AtMost (fin s m e) (inf t) a b h = absurd b
-le→AtMost (fin s m e) (fin t n d) a b h = simp (plus-times, minus-times) (at-most→ s (m * up e * down d) t (n * up d * down e) h)
+le→AtMost =
+    both-finite (λ x y. T (le x y) → FloatsAtMost x y)
+    (λ s m e t n d h. simp (plus-times, minus-times) (at-most→ s (m * up e * down d) t (n * up d * down e) h))
 
-pub AtMost→le : (x y : Float) → T (finite x) → T (finite y) → AtMost (plusPart x) (minusPart x) (den x) (plusPart y) (minusPart y) (den y) → T (le x y)
+pub AtMost→le : (x y : Float) → T (finite x) → T (finite y) → FloatsAtMost x y → T (le x y)
 unfolding le
-AtMost→le nan y a b h = absurd a
-AtMost→le (inf s) y a b h = absurd a
-AtMost→le (fin s m e) nan a b h = absurd b
-AtMost→le (fin s m e) (inf t) a b h = absurd b
-AtMost→le (fin s m e) (fin t n d) a b h = →at-most s (m * up e * down d) t (n * up d * down e) (simp (plus-times, minus-times) at h)
+AtMost→le =
+    both-finite (λ x y. FloatsAtMost x y → T (le x y))
+    (λ s m e t n d h. →at-most s (m * up e * down d) t (n * up d * down e) (simp (plus-times, minus-times) at h))
 
-pub lt→Below : (x y : Float) → T (finite x) → T (finite y) → T (lt x y) → Below (plusPart x) (minusPart x) (den x) (plusPart y) (minusPart y) (den y)
+pub lt→Below : (x y : Float) → T (finite x) → T (finite y) → T (lt x y) → FloatsBelow x y
 unfolding lt
-lt→Below nan y a b h = absurd a
-lt→Below (inf s) y a b h = absurd a
-lt→Below (fin s m e) nan a b h = absurd b
-lt→Below (fin s m e) (inf t) a b h = absurd b
-lt→Below (fin s m e) (fin t n d) a b h = simp (plus-times, minus-times) (below→ s (m * up e * down d) t (n * up d * down e) h)
+lt→Below =
+    both-finite (λ x y. T (lt x y) → FloatsBelow x y)
+    (λ s m e t n d h. simp (plus-times, minus-times) (below→ s (m * up e * down d) t (n * up d * down e) h))
 
-pub Below→lt : (x y : Float) → T (finite x) → T (finite y) → Below (plusPart x) (minusPart x) (den x) (plusPart y) (minusPart y) (den y) → T (lt x y)
+pub Below→lt : (x y : Float) → T (finite x) → T (finite y) → FloatsBelow x y → T (lt x y)
 unfolding lt
-Below→lt nan y a b h = absurd a
-Below→lt (inf s) y a b h = absurd a
-Below→lt (fin s m e) nan a b h = absurd b
-Below→lt (fin s m e) (inf t) a b h = absurd b
-Below→lt (fin s m e) (fin t n d) a b h = →below s (m * up e * down d) t (n * up d * down e) (simp (plus-times, minus-times) at h)
+Below→lt =
+    both-finite (λ x y. FloatsBelow x y → T (lt x y))
+    (λ s m e t n d h. →below s (m * up e * down d) t (n * up d * down e) (simp (plus-times, minus-times) at h))
 
 -- ---- inequalities between products: multiply out, then `omega`
 
