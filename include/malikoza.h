@@ -23,8 +23,8 @@
  * Stack, in KiB, as measured: the least thread (Linux, x86-64) on which the largest call returned, and such refused ones as
  * go deeper. The example `stack` of host/malikoza measures it.
  *
- *   malikoza_t_to_s_list    1224
- *   malikoza_t_to_s_grid     712
+ *   malikoza_t_to_s_list    1128
+ *   malikoza_t_to_s_grid     616
  *   malikoza_s_to_t          136
  *   malikoza_a_to_b          104
  *   malikoza_recover          28

@@ -35,14 +35,22 @@ answer-number done refused number d r zero = d
 answer-number done refused number d r (suc m) = r (suc m)
 
 -- ---- the room aside is as good as the output's own, for what fits aside
-pub room-same : (n room most : ℕ) → n ≤ most → leb n (min room most) ≡ leb n room
-room-same n room most h = go (leb room most) refl
+pub room-within : (n room most bound : ℕ) → n ≤ bound → min room bound ≤ most → leb n (min room most) ≡ leb n room
+room-within n room most bound h k = go (leb room most) refl
   where
+    under : (b : Bool) → leb room bound ≡ b → most < room → bound ≤ most
+    under true e m = absurd (omega (arith, min-eq-left (leb-true room bound e), k))
+    under false e m = let l = leb-false room bound e in omega (arith, min-eq-right {n = bound} {m = room} (omega arith), k)
+
     go : (b : Bool) → leb room most ≡ b → leb n (min room most) ≡ leb n room
     go true e = rw (min-eq-left (leb-true room most e))
     go false e =
         let m = leb-false room most e in
-        rw (min-eq-right {n = most} {m = room} (omega arith), le-leb n most h) (sym (le-leb n room (omega arith)))
+        let c = under (leb room bound) refl m in
+        rw (min-eq-right {n = most} {m = room} (omega arith), le-leb n most (omega arith)) (sym (le-leb n room (omega arith)))
+
+pub room-same : (n room most : ℕ) → n ≤ most → leb n (min room most) ≡ leb n room
+room-same n room most h = room-within n room most most h (min-le-right room most)
 
 pub room-fits : {A : Type 0} (room r : ℕ) (aside : List A) → r ≡ min room (length aside) → r ≡ length (take r aside)
 room-fits room r aside e = sym (length-take-le r aside (omega (arith, e, min-le-right room (length aside))))

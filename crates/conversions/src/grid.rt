@@ -4,7 +4,7 @@ use crate::samples;
 use byte_lists::doubles;
 use interpolation::grid::t_to_s_topp2_grid;
 use interpolation::samples::Sampled;
-ghost use Prim.Native.Nat.{_/_, _≤_};
+ghost use Prim.Native.Nat.{_/_, _≤_, min};
 ghost use lib.ListN.{length};
 ghost use Rattle.interpolation.specs.Samples.{countsOf};
 ghost use Rattle.interpolation.specs.Grid.{gridTime, gridSize, gridNo, gridEntry, gridEntries};
@@ -22,7 +22,7 @@ fn stations(
     aside: &mut [f64],
     out: &mut [u8],
 ) -> Sampled
-    requires { ⌜ 65537 ≤ length (now aside) ⌝ }
+    requires { ⌜ min (length (now out) / 8) 65537 ≤ length (now aside) ⌝ }
     ensures { λ r. ⌜ Answered (countsOf (now (t .entry)) (gridTime t0 dt) (gridSize (now (t .entry)) t0 dt) (gridEntries (now (s .entry)) (now (a .entry)) (now (t .entry)) t0 dt end)) (gridNo (now (s .entry)) (now (a .entry)) (now (t .entry)) t0 dt end (length (now (out .entry)) / 8))
         (gridEntry (now (s .entry)) (now (a .entry)) (now (t .entry)) t0 dt) (gridEntries (now (s .entry)) (now (a .entry)) (now (t .entry)) t0 dt end) (now (out .entry)) r (now (out .exit)) ⌝ }
 {
@@ -32,14 +32,22 @@ fn stations(
     r
 }
 
-fn decoded(s: &[u8], a: &[u8], t: &[u8], t0: f64, dt: f64, end: bool, out: &mut [u8]) -> Sampled
-    requires { ⌜ (length (now s) / 8 ≤ 4096) × (length (now a) / 8 ≤ 4096) × (length (now t) / 8 ≤ 4096) ⌝ }
+fn decoded(
+    s: &[u8],
+    a: &[u8],
+    t: &[u8],
+    t0: f64,
+    dt: f64,
+    end: bool,
+    aside: &mut [f64],
+    out: &mut [u8],
+) -> Sampled
+    requires { ⌜ (length (now s) / 8 ≤ 4096) × (length (now a) / 8 ≤ 4096) × (length (now t) / 8 ≤ 4096) × (min (length (now out) / 8) 65537 ≤ length (now aside)) ⌝ }
     ensures { λ r. ⌜ GridAnswered (now (s .entry)) (now (a .entry)) (now (t .entry)) t0 dt end (gridNo (doublesOf (now (s .entry))) (doublesOf (now (a .entry))) (doublesOf (now (t .entry))) t0 dt end (length (now (out .entry)) / 8)) (now (out .entry)) r (now (out .exit)) ⌝ }
 {
     let mut profile = [0.0; 4096];
     let mut speeds = [0.0; 4096];
     let mut times = [0.0; 4096];
-    let mut aside = [0.0; 65537];
     doubles::decode(s, &mut profile);
     doubles::decode(a, &mut speeds);
     doubles::decode(t, &mut times);
@@ -50,9 +58,22 @@ fn decoded(s: &[u8], a: &[u8], t: &[u8], t0: f64, dt: f64, end: bool, out: &mut 
         t0,
         dt,
         end,
-        &mut aside,
+        aside,
         out,
     )
+}
+
+// An array is cleared before it is used: an output with little room takes a small one.
+fn with_times(s: &[u8], a: &[u8], t: &[u8], t0: f64, dt: f64, end: bool, out: &mut [u8]) -> Sampled
+    requires { ⌜ (length (now s) / 8 ≤ 4096) × (length (now a) / 8 ≤ 4096) × (length (now t) / 8 ≤ 4096) ⌝ }
+    ensures { λ r. ⌜ GridAnswered (now (s .entry)) (now (a .entry)) (now (t .entry)) t0 dt end (gridNo (doublesOf (now (s .entry))) (doublesOf (now (a .entry))) (doublesOf (now (t .entry))) t0 dt end (length (now (out .entry)) / 8)) (now (out .entry)) r (now (out .exit)) ⌝ }
+{
+    if out.len() / 8 <= 1024 {
+        let mut aside = [0.0; 1024];
+        return decoded(s, a, t, t0, dt, end, &mut aside, out);
+    }
+    let mut aside = [0.0; 65537];
+    decoded(s, a, t, t0, dt, end, &mut aside, out)
 }
 
 fn with_profile(
@@ -68,7 +89,7 @@ fn with_profile(
     ensures { λ r. ⌜ GridAnswered (now (s .entry)) (now (a .entry)) (now (t .entry)) t0 dt end (gridNo (doublesOf (now (s .entry))) (doublesOf (now (a .entry))) (doublesOf (now (t .entry))) t0 dt end (length (now (out .entry)) / 8)) (now (out .entry)) r (now (out .exit)) ⌝ }
 {
     if t.len() / 8 == s.len() / 8 {
-        return decoded(s, a, t, t0, dt, end, out);
+        return with_times(s, a, t, t0, dt, end, out);
     }
     Sampled::Refused(samples::refusal(s, a, t))
 }

@@ -31,27 +31,53 @@ fn stations(
     r
 }
 
-fn decoded(s: &[u8], a: &[u8], t: &[u8], x: &[u8], out: &mut [u8]) -> Sampled
-    requires { ⌜ (length (now s) / 8 ≤ 4096) × (length (now a) / 8 ≤ 4096) × (length (now t) / 8 ≤ 4096) × (length (now x) / 8 ≤ 65536) ⌝ }
+// The samples are decoded into memory that is lent, and so are the stations found.
+fn decoded(
+    s: &[u8],
+    a: &[u8],
+    t: &[u8],
+    x: &[u8],
+    asked: &mut [f64],
+    aside: &mut [f64],
+    out: &mut [u8],
+) -> Sampled
+    requires { ⌜ (length (now s) / 8 ≤ 4096) × (length (now a) / 8 ≤ 4096) × (length (now t) / 8 ≤ 4096) × (length (now x) / 8 ≤ length (now asked)) × (length (now x) / 8 ≤ length (now aside)) ⌝ }
     ensures { λ r. ⌜ ListAnswered (now (s .entry)) (now (a .entry)) (now (t .entry)) (now (x .entry)) (listNo (doublesOf (now (s .entry))) (doublesOf (now (a .entry))) (doublesOf (now (t .entry))) (doublesOf (now (x .entry))) (length (now (out .entry)) / 8)) (now (out .entry)) r (now (out .exit)) ⌝ }
 {
     let mut profile = [0.0; 4096];
     let mut speeds = [0.0; 4096];
     let mut times = [0.0; 4096];
-    let mut asked = [0.0; 65536];
-    let mut aside = [0.0; 65536];
     doubles::decode(s, &mut profile);
     doubles::decode(a, &mut speeds);
     doubles::decode(t, &mut times);
-    doubles::decode(x, &mut asked);
+    doubles::decode(x, asked);
     stations(
         &profile[..s.len() / 8],
         &speeds[..a.len() / 8],
         &times[..t.len() / 8],
         &asked[..x.len() / 8],
-        &mut aside,
+        aside,
         out,
     )
+}
+
+// Arrays are cleared before they are used: few samples take small ones.
+fn with_few(s: &[u8], a: &[u8], t: &[u8], x: &[u8], out: &mut [u8]) -> Sampled
+    requires { ⌜ (length (now s) / 8 ≤ 4096) × (length (now a) / 8 ≤ 4096) × (length (now t) / 8 ≤ 4096) × (length (now x) / 8 ≤ 1024) ⌝ }
+    ensures { λ r. ⌜ ListAnswered (now (s .entry)) (now (a .entry)) (now (t .entry)) (now (x .entry)) (listNo (doublesOf (now (s .entry))) (doublesOf (now (a .entry))) (doublesOf (now (t .entry))) (doublesOf (now (x .entry))) (length (now (out .entry)) / 8)) (now (out .entry)) r (now (out .exit)) ⌝ }
+{
+    let mut asked = [0.0; 1024];
+    let mut aside = [0.0; 1024];
+    decoded(s, a, t, x, &mut asked, &mut aside, out)
+}
+
+fn with_many(s: &[u8], a: &[u8], t: &[u8], x: &[u8], out: &mut [u8]) -> Sampled
+    requires { ⌜ (length (now s) / 8 ≤ 4096) × (length (now a) / 8 ≤ 4096) × (length (now t) / 8 ≤ 4096) × (length (now x) / 8 ≤ 65536) ⌝ }
+    ensures { λ r. ⌜ ListAnswered (now (s .entry)) (now (a .entry)) (now (t .entry)) (now (x .entry)) (listNo (doublesOf (now (s .entry))) (doublesOf (now (a .entry))) (doublesOf (now (t .entry))) (doublesOf (now (x .entry))) (length (now (out .entry)) / 8)) (now (out .entry)) r (now (out .exit)) ⌝ }
+{
+    let mut asked = [0.0; 65536];
+    let mut aside = [0.0; 65536];
+    decoded(s, a, t, x, &mut asked, &mut aside, out)
 }
 
 // The profile and its times are in their limits. Samples over theirs are not decoded: 28, but where the profile or its times are refused before.
@@ -59,8 +85,11 @@ fn with_times(s: &[u8], a: &[u8], t: &[u8], x: &[u8], out: &mut [u8]) -> Sampled
     requires { ⌜ (length (now s) / 8 ≤ 4096) × (length (now a) / 8 ≤ 4096) × (2 ≤ length (now s) / 8) × (length (now t) / 8 ≤ 4096) ⌝ }
     ensures { λ r. ⌜ ListAnswered (now (s .entry)) (now (a .entry)) (now (t .entry)) (now (x .entry)) (listNo (doublesOf (now (s .entry))) (doublesOf (now (a .entry))) (doublesOf (now (t .entry))) (doublesOf (now (x .entry))) (length (now (out .entry)) / 8)) (now (out .entry)) r (now (out .exit)) ⌝ }
 {
+    if x.len() / 8 <= 1024 {
+        return with_few(s, a, t, x, out);
+    }
     if x.len() / 8 <= 65536 {
-        return decoded(s, a, t, x, out);
+        return with_many(s, a, t, x, out);
     }
     let number = samples::refusal(s, a, t);
     if number == 0 {

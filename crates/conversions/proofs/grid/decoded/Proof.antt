@@ -25,22 +25,19 @@ array-share-prefix-profile : tie.Need-array-share-prefix-profile
 array-share-prefix-profile c = search needs
 
 slice-aggregate-stations : tie.Need-slice-aggregate-stations
-slice-aggregate-stations c = front-count (c .before .before .before .before .before .before .before .before .before .before .before .before .before .before .args .s .now) _ _ (c .before .before .before .before .before .before .before .before .decode .ensures) (c .before .before .before .before .before .before .before .before .before .before .before .before .before .before .pre .0)
+slice-aggregate-stations c = front-count (c .before .before .before .before .before .before .before .before .before .before .before .before .before .before .before .args .s .now) _ _ (c .before .before .before .before .before .before .before .before .decode .ensures) (c .before .before .before .before .before .before .before .before .before .before .before .before .before .before .before .pre .0)
 
 array-share-prefix-speeds : tie.Need-array-share-prefix-speeds
 array-share-prefix-speeds c = search needs
 
 slice-aggregate-stations-2 : tie.Need-slice-aggregate-stations-2
-slice-aggregate-stations-2 c = front-count (c .before .before .before .before .before .before .before .before .before .before .before .before .before .before .before .args .a .now) _ _ (c .before .before .before .before .before .before .decode2 .ensures) (c .before .before .before .before .before .before .before .before .before .before .before .before .before .before .before .pre .1)
+slice-aggregate-stations-2 c = front-count (c .before .before .before .before .before .before .before .before .before .before .before .before .before .before .before .before .args .a .now) _ _ (c .before .before .before .before .before .before .decode2 .ensures) (c .before .before .before .before .before .before .before .before .before .before .before .before .before .before .before .before .pre .1)
 
 array-share-prefix-times : tie.Need-array-share-prefix-times
 array-share-prefix-times c = search needs
 
 slice-aggregate-stations-3 : tie.Need-slice-aggregate-stations-3
-slice-aggregate-stations-3 c = front-count (c .before .before .before .before .before .before .before .before .before .before .before .before .before .before .before .before .args .t .now) _ _ (c .before .before .before .before .decode3 .ensures) (c .before .before .before .before .before .before .before .before .before .before .before .before .before .before .before .before .pre .2)
-
-slice-aggregate-stations-4 : tie.Need-slice-aggregate-stations-4
-slice-aggregate-stations-4 c = search needs
+slice-aggregate-stations-3 c = front-count (c .before .before .before .before .before .before .before .before .before .before .before .before .before .before .before .before .before .args .t .now) _ _ (c .before .before .before .before .decode3 .ensures) (c .before .before .before .before .before .before .before .before .before .before .before .before .before .before .before .before .before .pre .2)
 
 stations-requires : tie.Need-stations-requires
 stations-requires c κs = search needs
@@ -48,13 +45,16 @@ stations-requires c κs = search needs
 same-length : tie.Need-same-length
 same-length c = search needs
 
+same-length-2 : tie.Need-same-length-2
+same-length-2 c = search needs
+
 returns : tie.Need-returns
-returns c = let a = c .before .before .before .before .before .before .before .before .before .before .before .before .before .before .before .before .before .before .before .before .before .before .args in
+returns c = let a = c .before .before .before .before .before .before .before .before .before .before .before .before .before .before .before .before .before .before .before .before .before .before .before .before .args in
     rw (
-      front-is (a .s .now) _ _ (c .before .before .before .before .before .before .before .before .before .before .before .before .before .before .before .before .decode .ensures) (c .before .before .before .before .before .before .before .before .before .before .before .before .before .before .before .before .before .before .before .before .before .before .pre .0),
-      front-is (a .a .now) _ _ (c .before .before .before .before .before .before .before .before .before .before .before .before .before .decode2 .ensures) (c .before .before .before .before .before .before .before .before .before .before .before .before .before .before .before .before .before .before .before .before .before .before .pre .1),
-      front-is (a .t .now) _ _ (c .before .before .before .before .before .before .before .before .before .before .decode3 .ensures) (c .before .before .before .before .before .before .before .before .before .before .before .before .before .before .before .before .before .before .before .before .before .before .pre .2),
-    ) at (c .before .before .before .stations .ensures)
+      front-is (a .s .now) _ _ (c .before .before .before .before .before .before .before .before .before .before .before .before .before .before .before .before .before .decode .ensures) (c .before .before .before .before .before .before .before .before .before .before .before .before .before .before .before .before .before .before .before .before .before .before .before .before .pre .0),
+      front-is (a .a .now) _ _ (c .before .before .before .before .before .before .before .before .before .before .before .before .before .before .decode2 .ensures) (c .before .before .before .before .before .before .before .before .before .before .before .before .before .before .before .before .before .before .before .before .before .before .before .before .pre .1),
+      front-is (a .t .now) _ _ (c .before .before .before .before .before .before .before .before .before .before .before .decode3 .ensures) (c .before .before .before .before .before .before .before .before .before .before .before .before .before .before .before .before .before .before .before .before .before .before .before .before .pre .2),
+    ) at (c .before .before .before .before .stations .ensures)
 
 pub decoded-spec : {M : Type 1} → statement M
 decoded-spec =
@@ -72,7 +72,7 @@ decoded-spec =
     slice-aggregate-stations-2
     array-share-prefix-times
     slice-aggregate-stations-3
-    slice-aggregate-stations-4
     stations-requires
     same-length
+    same-length-2
     returns)

@@ -3,6 +3,7 @@ use mathlib.Core.Path.{_≡_, refl}
 use mathlib.Core.Bool.{Bool, true, false, cond, _&&_}
 use mathlib.Core.List.{List}
 use native.Mathlib.Omega.{arith}
+use native.Mathlib.Nat.{le-trans, le-min}
 use borrow.Author.Tests.{leb-true}
 use lib.Dec.{leb}
 use lib.ListN.{length, take}
@@ -13,7 +14,7 @@ use Rattle.interpolation.specs.Grid.{gridTime, gridSize, finalAdded, gridStatio
 use Rattle.interpolation.specs.declared.samples.Counts.{Counts}
 use Rattle.interpolation.specs.declared.samples.Sampled.{Sampled}
 use Rattle.interpolation.proofs.Samplings.{gridded}
-use Rattle.conversions.proofs.Replies.{room-same, room-fits, Aside, written-entries, counts}
+use Rattle.conversions.proofs.Replies.{room-within, room-fits, Aside, written-entries, counts}
 use borrow.Author.Needs.{needs}
 use Rattle.conversions.proofs.grid.stations.Statement.{statement}
 use Rattle.conversions.proofs.grid.stations.Tie as tie
@@ -23,14 +24,14 @@ one-at-most true = omega arith
 one-at-most false = omega arith
 
 -- 28 comes before the room is asked for
-few-first : (n e room most : ℕ) → e ≤ 1 → 65537 ≤ most → unless (leb n 65536) 28 or unless (leb (n + e) (min room most)) 29 ≡ unless (leb n 65536) 28 or unless (leb (n + e) room) 29
+few-first : (n e room most : ℕ) → e ≤ 1 → min room 65537 ≤ most → unless (leb n 65536) 28 or unless (leb (n + e) (min room most)) 29 ≡ unless (leb n 65536) 28 or unless (leb (n + e) room) 29
 few-first n e room most h k = go (leb n 65536) refl
   where
     go : (b : Bool) → leb n 65536 ≡ b → unless b 28 or unless (leb (n + e) (min room most)) 29 ≡ unless b 28 or unless (leb (n + e) room) 29
-    go true f = let l = leb-true n 65536 f in rw (room-same (n + e) room most (omega arith))
+    go true f = let l = leb-true n 65536 f in rw (room-within (n + e) room most 65537 (omega arith) k)
     go false f = refl
 
-same-room : (s a t : List Float) (t0 dt : Float) (final : Bool) (room most : ℕ) → 65537 ≤ most → gridNo s a t t0 dt final (min room most) ≡ gridNo s a t t0 dt final room
+same-room : (s a t : List Float) (t0 dt : Float) (final : Bool) (room most : ℕ) → min room 65537 ≤ most → gridNo s a t t0 dt final (min room most) ≡ gridNo s a t t0 dt final room
 unfolding gridNo evenNo
 same-room s a t t0 dt final room most h = rw (few-first (gridSize t t0 dt) (cond final 1 0) room most (one-at-most final) h)
 
@@ -48,12 +49,15 @@ needed s a t t0 dt final =
 abbrev evenCounts : List Float → List Float → List Float → Float → Float → Bool → Counts
 evenCounts s a t t0 dt final = countsOf t (gridTime t0 dt) (gridSize t t0 dt) (gridEntries s a t t0 dt final)
 
-here : (s a t : List Float) (t0 dt : Float) (final : Bool) (aside front : List Float) (out : List ℕ) (r : ℕ) (v : Sampled) → r ≡ min (length out / 8) (length aside) → 65537 ≤ length aside
+here : (s a t : List Float) (t0 dt : Float) (final : Bool) (aside front : List Float) (out : List ℕ) (r : ℕ) (v : Sampled) → r ≡ min (length out / 8) (length aside) → min (length out / 8) 65537 ≤ length aside
     → Gridded s a t t0 dt final (take r aside) v front
     → Aside (gridNo s a t t0 dt final) (gridEntry s a t t0 dt) (gridEntries s a t t0 dt final) aside front out r (gridNo s a t t0 dt final (length (take r aside)))
 here s a t t0 dt final aside front out r v e h o = record {
   room = e;
-  enough = λ z. omega (arith, gridded s a t t0 dt final _ z .3, needed s a t t0 dt final, one-at-most final, h);
+  enough = λ z.
+      let g = gridded s a t t0 dt final _ z in
+      let n = needed s a t t0 dt final in
+      le-trans (le-min (omega (arith, g .4, n)) (omega (arith, g .3, n, one-at-most final))) h;
   same = same-room s a t t0 dt final (length out / 8) (length aside) h;
   fits = λ z. omega (arith, gridded s a t t0 dt final _ z .4, needed s a t t0 dt final);
   number = refl;

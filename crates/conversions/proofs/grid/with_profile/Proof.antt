@@ -4,8 +4,8 @@ use borrow.Author.Needs.{needs}
 use Rattle.conversions.proofs.grid.with_profile.Statement.{statement}
 use Rattle.conversions.proofs.grid.with_profile.Tie as tie
 
-decoded-requires : tie.Need-decoded-requires
-decoded-requires c κs = search needs
+with-times-requires : tie.Need-with-times-requires
+with-times-requires c κs = search needs
 
 same-length : tie.Need-same-length
 same-length c = search needs
@@ -24,4 +24,4 @@ returns-2 c = let a = c .before .before .before .before .before .before .args in
 
 pub with-profile-spec : {M : Type 1} → statement M
 with-profile-spec =
-    tie.close (tie.spec decoded-requires same-length returns refusal-requires returns-2)
+    tie.close (tie.spec with-times-requires same-length returns refusal-requires returns-2)

@@ -22,9 +22,6 @@ slice-aggregate-decode-3 c = search needs
 decode-requires-3 : tie.Need-decode-requires-3
 decode-requires-3 c κs = search needs
 
-slice-aggregate-decode-4 : tie.Need-slice-aggregate-decode-4
-slice-aggregate-decode-4 c = search needs
-
 decode-requires-4 : tie.Need-decode-requires-4
 decode-requires-4 c κs = search needs
 
@@ -32,43 +29,46 @@ array-share-prefix-profile : tie.Need-array-share-prefix-profile
 array-share-prefix-profile c = search needs
 
 slice-aggregate-stations : tie.Need-slice-aggregate-stations
-slice-aggregate-stations c = front-count (c .before .before .before .before .before .before .before .before .before .before .before .before .before .before .before .before .before .before .args .s .now) _ _ (c .before .before .before .before .before .before .before .before .before .before .before .decode .ensures) (c .before .before .before .before .before .before .before .before .before .before .before .before .before .before .before .before .before .before .pre .0)
+slice-aggregate-stations c = front-count (c .before .before .before .before .before .before .before .before .before .before .before .before .before .before .before .before .before .before .before .before .before .args .s .now) _ _ (c .before .before .before .before .before .before .before .before .before .before .before .before .decode .ensures) (c .before .before .before .before .before .before .before .before .before .before .before .before .before .before .before .before .before .before .before .before .before .pre .0)
 
 array-share-prefix-speeds : tie.Need-array-share-prefix-speeds
 array-share-prefix-speeds c = search needs
 
 slice-aggregate-stations-2 : tie.Need-slice-aggregate-stations-2
-slice-aggregate-stations-2 c = front-count (c .before .before .before .before .before .before .before .before .before .before .before .before .before .before .before .before .before .before .before .args .a .now) _ _ (c .before .before .before .before .before .before .before .before .before .decode2 .ensures) (c .before .before .before .before .before .before .before .before .before .before .before .before .before .before .before .before .before .before .before .pre .1)
+slice-aggregate-stations-2 c = front-count (c .before .before .before .before .before .before .before .before .before .before .before .before .before .before .before .before .before .before .before .before .before .before .args .a .now) _ _ (c .before .before .before .before .before .before .before .before .before .before .decode2 .ensures) (c .before .before .before .before .before .before .before .before .before .before .before .before .before .before .before .before .before .before .before .before .before .before .pre .1)
 
 array-share-prefix-times : tie.Need-array-share-prefix-times
 array-share-prefix-times c = search needs
 
 slice-aggregate-stations-3 : tie.Need-slice-aggregate-stations-3
-slice-aggregate-stations-3 c = front-count (c .before .before .before .before .before .before .before .before .before .before .before .before .before .before .before .before .before .before .before .before .args .t .now) _ _ (c .before .before .before .before .before .before .before .decode3 .ensures) (c .before .before .before .before .before .before .before .before .before .before .before .before .before .before .before .before .before .before .before .before .pre .2)
+slice-aggregate-stations-3 c = front-count (c .before .before .before .before .before .before .before .before .before .before .before .before .before .before .before .before .before .before .before .before .before .before .before .args .t .now) _ _ (c .before .before .before .before .before .before .before .before .decode3 .ensures) (c .before .before .before .before .before .before .before .before .before .before .before .before .before .before .before .before .before .before .before .before .before .before .before .pre .2)
 
-array-share-prefix-asked : tie.Need-array-share-prefix-asked
-array-share-prefix-asked c = search needs
+slice-reshare-prefix-stations : tie.Need-slice-reshare-prefix-stations
+slice-reshare-prefix-stations c = search needs
 
 slice-aggregate-stations-4 : tie.Need-slice-aggregate-stations-4
-slice-aggregate-stations-4 c = front-count (c .before .before .before .before .before .before .before .before .before .before .before .before .before .before .before .before .before .before .before .before .before .args .x .now) _ _ (c .before .before .before .before .before .decode4 .ensures) (c .before .before .before .before .before .before .before .before .before .before .before .before .before .before .before .before .before .before .before .before .before .pre .3)
-
-slice-aggregate-stations-5 : tie.Need-slice-aggregate-stations-5
-slice-aggregate-stations-5 c = search needs
+slice-aggregate-stations-4 c = front-count (c .before .before .before .before .before .before .before .before .before .before .before .before .before .before .before .before .before .before .before .before .before .before .before .before .args .x .now) _ _ (c .before .before .before .before .before .before .decode4 .ensures) (c .before .before .before .before .before .before .before .before .before .before .before .before .before .before .before .before .before .before .before .before .before .before .before .before .pre .3)
 
 stations-requires : tie.Need-stations-requires
-stations-requires c κs = omega (arith, front-count (c .before .before .before .before .before .before .before .before .before .before .before .before .before .before .before .before .before .before .before .before .before .before .before .args .x .now) _ _ (c .before .before .before .before .before .before .before .decode4 .ensures) (c .before .before .before .before .before .before .before .before .before .before .before .before .before .before .before .before .before .before .before .before .before .before .before .pre .3), c .before .before .before .before .before .before .before .before .before .before .before .before .before .before .before .before .before .before .before .before .before .before .before .pre .3)
+stations-requires c κs = omega (arith, front-count (c .before .before .before .before .before .before .before .before .before .before .before .before .before .before .before .before .before .before .before .before .before .before .before .before .before .before .args .x .now) _ _ (c .before .before .before .before .before .before .before .before .decode4 .ensures) (c .before .before .before .before .before .before .before .before .before .before .before .before .before .before .before .before .before .before .before .before .before .before .before .before .before .before .pre .3), c .before .before .before .before .before .before .before .before .before .before .before .before .before .before .before .before .before .before .before .before .before .before .before .before .before .before .pre .4)
 
 same-length : tie.Need-same-length
 same-length c = search needs
 
+same-length-2 : tie.Need-same-length-2
+same-length-2 c = search needs
+
+same-length-3 : tie.Need-same-length-3
+same-length-3 c = search needs
+
 returns : tie.Need-returns
-returns c = let a = c .before .before .before .before .before .before .before .before .before .before .before .before .before .before .before .before .before .before .before .before .before .before .before .before .before .before .before .args in
+returns c = let a = c .before .before .before .before .before .before .before .before .before .before .before .before .before .before .before .before .before .before .before .before .before .before .before .before .before .before .before .before .before .before .before .args in
     rw (
-      front-is (a .s .now) _ _ (c .before .before .before .before .before .before .before .before .before .before .before .before .before .before .before .before .before .before .before .before .decode .ensures) (c .before .before .before .before .before .before .before .before .before .before .before .before .before .before .before .before .before .before .before .before .before .before .before .before .before .before .before .pre .0),
-      front-is (a .a .now) _ _ (c .before .before .before .before .before .before .before .before .before .before .before .before .before .before .before .before .before .decode2 .ensures) (c .before .before .before .before .before .before .before .before .before .before .before .before .before .before .before .before .before .before .before .before .before .before .before .before .before .before .before .pre .1),
-      front-is (a .t .now) _ _ (c .before .before .before .before .before .before .before .before .before .before .before .before .before .before .decode3 .ensures) (c .before .before .before .before .before .before .before .before .before .before .before .before .before .before .before .before .before .before .before .before .before .before .before .before .before .before .before .pre .2),
-      front-is (a .x .now) _ _ (c .before .before .before .before .before .before .before .before .before .before .before .decode4 .ensures) (c .before .before .before .before .before .before .before .before .before .before .before .before .before .before .before .before .before .before .before .before .before .before .before .before .before .before .before .pre .3),
-    ) at (c .before .before .before .stations .ensures)
+      front-is (a .s .now) _ _ (c .before .before .before .before .before .before .before .before .before .before .before .before .before .before .before .before .before .before .before .before .before .before .decode .ensures) (c .before .before .before .before .before .before .before .before .before .before .before .before .before .before .before .before .before .before .before .before .before .before .before .before .before .before .before .before .before .before .before .pre .0),
+      front-is (a .a .now) _ _ (c .before .before .before .before .before .before .before .before .before .before .before .before .before .before .before .before .before .before .before .decode2 .ensures) (c .before .before .before .before .before .before .before .before .before .before .before .before .before .before .before .before .before .before .before .before .before .before .before .before .before .before .before .before .before .before .before .pre .1),
+      front-is (a .t .now) _ _ (c .before .before .before .before .before .before .before .before .before .before .before .before .before .before .before .before .decode3 .ensures) (c .before .before .before .before .before .before .before .before .before .before .before .before .before .before .before .before .before .before .before .before .before .before .before .before .before .before .before .before .before .before .before .pre .2),
+      front-is (a .x .now) _ _ (c .before .before .before .before .before .before .before .before .before .before .before .before .before .decode4 .ensures) (c .before .before .before .before .before .before .before .before .before .before .before .before .before .before .before .before .before .before .before .before .before .before .before .before .before .before .before .before .before .before .before .pre .3),
+    ) at (c .before .before .before .before .stations .ensures)
 
 pub decoded-spec : {M : Type 1} → statement M
 decoded-spec =
@@ -80,7 +80,6 @@ decoded-spec =
     decode-requires-2
     slice-aggregate-decode-3
     decode-requires-3
-    slice-aggregate-decode-4
     decode-requires-4
     array-share-prefix-profile
     slice-aggregate-stations
@@ -88,9 +87,10 @@ decoded-spec =
     slice-aggregate-stations-2
     array-share-prefix-times
     slice-aggregate-stations-3
-    array-share-prefix-asked
+    slice-reshare-prefix-stations
     slice-aggregate-stations-4
-    slice-aggregate-stations-5
     stations-requires
     same-length
+    same-length-2
+    same-length-3
     returns)
