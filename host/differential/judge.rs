@@ -86,6 +86,11 @@ fn agrees(case: &Case, ours: &Answer, original: &Option<Original>) -> bool {
         }
 }
 
+/// Whether the original says of a case what an answer says; none outside the domain.
+pub fn original_agrees(case: &Case, answer: &Answer, slip: Slip) -> Option<bool> {
+    is_in_the_domain(case, answer.number).then(|| agrees(case, answer, &original(case, slip)))
+}
+
 /// Which two sides differ.
 #[derive(Clone, Copy, PartialEq, Eq, Debug)]
 pub enum Difference {
@@ -111,7 +116,7 @@ pub fn compared(case: &Case, slip: Slip) -> Compared {
     let in_another_order = turned.is_some();
     let difference = if ours != wanted {
         Some(Difference::FromRules)
-    } else if with_original && !agrees(case, &ours, &original(case, slip)) {
+    } else if original_agrees(case, &ours, slip) == Some(false) {
         Some(Difference::FromOriginal)
     } else if turned.is_some_and(|turned| library::call(&turned) != ours) {
         Some(Difference::InAnotherOrder)

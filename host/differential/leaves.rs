@@ -10,7 +10,7 @@ use crate::slips::Slip;
 
 /// What Rust says; of minimum, maximum and hypot, which Rust leaves open in part, what document 01 says. The whole part is the number itself, all others are
 /// patterns.
-fn expected(entry: Entry, patterns: [u64; 3], slip: Slip) -> u64 {
+pub fn expected(entry: Entry, patterns: [u64; 3], slip: Slip) -> u64 {
     let [x, y, z] = patterns.map(f64::from_bits);
     match entry {
         Entry::Sqrt => pattern(x.sqrt()),
@@ -28,7 +28,7 @@ fn expected(entry: Entry, patterns: [u64; 3], slip: Slip) -> u64 {
 }
 
 /// What else must hold of an answer: it is the nearest where it is rounded, and Rust's own minimum or maximum but for the sign of a zero.
-fn holds(entry: Entry, patterns: [u64; 3], answer: u64) -> bool {
+pub fn holds(entry: Entry, patterns: [u64; 3], answer: u64) -> bool {
     let [x, y, z] = patterns;
     match entry {
         Entry::Sqrt => exact::is_root(x, answer),

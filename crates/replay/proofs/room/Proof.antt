@@ -1,0 +1,15 @@
+use Prim.Native.Nat.{ℕ}
+use mathlib.Core.Path.{_≡_, sym}
+use lib.ListN.{length, replicate, length-replicate}
+use Rattle.replay.proofs.room.Statement.{statement}
+use Rattle.replay.proofs.room.Tie as tie
+
+-- With n a variable, so that no list is walked.
+zeros : (n : ℕ) → n ≡ length {A = ℕ} (replicate n 0)
+zeros n = sym (length-replicate n 0)
+
+returns : tie.Need-returns
+returns c = zeros 1572864
+
+pub room-spec : {M : Type 1} → statement M
+room-spec = tie.close (tie.spec returns)

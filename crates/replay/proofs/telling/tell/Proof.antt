@@ -1,0 +1,98 @@
+use Prim.Native.Nat.{_≤_, _-_}
+use native.Mathlib.Omega.{arith}
+use borrow.Author.Needs.{needs}
+use Rattle.replay.proofs.telling.tell.Statement.{statement}
+use Rattle.replay.proofs.telling.tell.Tie as tie
+
+abbrev Inv-loop : tie.InvT-loop
+Inv-loop tally cases₀ differ₀ i₀ cases differ i = i ≤ 13
+
+abbrev μ-loop : tie.MeasureT-loop
+μ-loop tally cases₀ differ₀ i₀ cases differ i = 13 - i
+
+loop-holds : tie.Need-loop-holds Inv-loop μ-loop
+loop-holds c = omega arith
+
+name-requires : tie.Need-name-requires Inv-loop μ-loop
+name-requires c κs = search needs
+
+mul-counts : tie.Need-mul-counts Inv-loop μ-loop
+mul-counts c = omega arith
+
+element-copy-out-counts : tie.Need-element-copy-out-counts Inv-loop μ-loop
+element-copy-out-counts c = omega arith
+
+add-counts : tie.Need-add-counts Inv-loop μ-loop
+add-counts c = omega arith
+
+mul-counts-2 : tie.Need-mul-counts-2 Inv-loop μ-loop
+mul-counts-2 c = omega arith
+
+element-copy-out-counts-2 : tie.Need-element-copy-out-counts-2 Inv-loop μ-loop
+element-copy-out-counts-2 c = omega arith
+
+counts-requires : tie.Need-counts-requires Inv-loop μ-loop
+counts-requires c κs = search needs
+
+mul-wrapping-add-u64 : tie.Need-mul-wrapping-add-u64 Inv-loop μ-loop
+mul-wrapping-add-u64 c = omega arith
+
+element-copy-out-wrapping-add-u64 : tie.Need-element-copy-out-wrapping-add-u64 Inv-loop μ-loop
+element-copy-out-wrapping-add-u64 c = omega arith
+
+wrapping-add-u64-requires : tie.Need-wrapping-add-u64-requires Inv-loop μ-loop
+wrapping-add-u64-requires c κs = search needs
+
+add-wrapping-add-u64 : tie.Need-add-wrapping-add-u64 Inv-loop μ-loop
+add-wrapping-add-u64 c = omega arith
+
+mul-wrapping-add-u64-2 : tie.Need-mul-wrapping-add-u64-2 Inv-loop μ-loop
+mul-wrapping-add-u64-2 c = omega arith
+
+element-copy-out-wrapping-add-u64-2 : tie.Need-element-copy-out-wrapping-add-u64-2 Inv-loop μ-loop
+element-copy-out-wrapping-add-u64-2 c = omega arith
+
+wrapping-add-u64-requires-2 : tie.Need-wrapping-add-u64-requires-2 Inv-loop μ-loop
+wrapping-add-u64-requires-2 c κs = search needs
+
+add-i : tie.Need-add-i Inv-loop μ-loop
+add-i c = omega arith
+
+loop-less : tie.Need-loop-less Inv-loop μ-loop
+loop-less c = omega arith
+
+loop-again : tie.Need-loop-again Inv-loop μ-loop
+loop-again c = omega arith
+
+counts-requires-2 : tie.Need-counts-requires-2 Inv-loop μ-loop
+counts-requires-2 c κs = search needs
+
+returns : tie.Need-returns Inv-loop μ-loop
+returns c = omega arith
+
+pub tell-spec : {M : Type 1} → statement M
+tell-spec =
+    tie.close
+    (tie.spec
+    Inv-loop
+    μ-loop
+    loop-holds
+    name-requires
+    mul-counts
+    element-copy-out-counts
+    add-counts
+    mul-counts-2
+    element-copy-out-counts-2
+    counts-requires
+    mul-wrapping-add-u64
+    element-copy-out-wrapping-add-u64
+    wrapping-add-u64-requires
+    add-wrapping-add-u64
+    mul-wrapping-add-u64-2
+    element-copy-out-wrapping-add-u64-2
+    wrapping-add-u64-requires-2
+    add-i
+    loop-less
+    loop-again
+    counts-requires-2
+    returns)

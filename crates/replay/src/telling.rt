@@ -1,0 +1,49 @@
+// What is printed.
+use libc::STDOUT_FILENO;
+
+fn name(entry: usize) -> bool {
+    match entry {
+        0 => io::write_all(STDOUT_FILENO, b"malikoza_sqrt: "),
+        1 => io::write_all(STDOUT_FILENO, b"malikoza_fma: "),
+        2 => io::write_all(STDOUT_FILENO, b"malikoza_hypot: "),
+        3 => io::write_all(STDOUT_FILENO, b"malikoza_next_down: "),
+        4 => io::write_all(STDOUT_FILENO, b"malikoza_minimum: "),
+        5 => io::write_all(STDOUT_FILENO, b"malikoza_maximum: "),
+        6 => io::write_all(STDOUT_FILENO, b"malikoza_absolute: "),
+        7 => io::write_all(STDOUT_FILENO, b"malikoza_whole_part: "),
+        8 => io::write_all(STDOUT_FILENO, b"malikoza_recover: "),
+        9 => io::write_all(STDOUT_FILENO, b"malikoza_a_to_b: "),
+        10 => io::write_all(STDOUT_FILENO, b"malikoza_s_to_t: "),
+        11 => io::write_all(STDOUT_FILENO, b"malikoza_t_to_s_list: "),
+        _ => io::write_all(STDOUT_FILENO, b"malikoza_t_to_s_grid: "),
+    }
+}
+
+fn counts(cases: u64, differ: u64) {
+    io::print_decimal(STDOUT_FILENO, cases);
+    io::write_all(STDOUT_FILENO, b" cases, ");
+    io::print_decimal(STDOUT_FILENO, differ);
+    io::write_all(STDOUT_FILENO, b" differ\n");
+}
+
+// A tally has 13 numbers of cases, by entry, and then as many of those that differ.
+pub(crate) fn tell(tally: &[u64; 26]) {
+    let mut cases = 0;
+    let mut differ = 0;
+    let mut i = 0;
+    while i < 13 {
+        name(i);
+        counts(tally[i], tally[i + 13]);
+        cases = std::num::wrapping_add_u64(cases, tally[i]);
+        differ = std::num::wrapping_add_u64(differ, tally[i + 13]);
+        i += 1;
+    }
+    counts(cases, differ);
+}
+
+// Where a case, or the file as a whole, does not keep its form.
+pub(crate) fn malformed(at: usize) {
+    io::write_all(STDOUT_FILENO, b"no list of cases: malformed at byte ");
+    io::print_decimal(STDOUT_FILENO, at as u64);
+    io::write_all(STDOUT_FILENO, b"\n");
+}
