@@ -2,6 +2,7 @@
 use crate::tell::tell;
 use limits::request::Interval;
 use limits::request::Request;
+use malikoza::recover::malikoza_recover;
 use number::pattern::pattern_of;
 use topp2_ra::answer::Answer;
 use topp2_ra::recovery::recover_forward_intersection;
@@ -162,6 +163,58 @@ fn middle_stays() -> bool {
     )
 }
 
+// 10, of the C entry alone: the usual request, rows of so many bytes; the lent numbers stay.
+fn bytes_refused(rows: &[u8], feas_tol: u64) -> bool {
+    let one = 0x3ff0_0000_0000_0000;
+    let three = 0x4008_0000_0000_0000;
+    let four = 0x4010_0000_0000_0000;
+    let nine = 0x4022_0000_0000_0000;
+    let mut x = 7;
+    let mut n = 7;
+    let mut r = 7;
+    let mut t = 7;
+    let number = malikoza_recover(
+        one,
+        0,
+        four,
+        nine,
+        0,
+        four,
+        three,
+        feas_tol,
+        0,
+        0,
+        rows,
+        &mut x,
+        &mut n,
+        &mut r,
+        &mut t,
+    );
+    if number == 10 {
+        return all_seven(x, n, r, t);
+    }
+    false
+}
+
+fn all_seven(x: u64, n: u64, r: u64, t: u64) -> bool {
+    if x == 7 {
+        if n == 7 {
+            if r == 7 {
+                return t == 7;
+            }
+        }
+    }
+    false
+}
+
+// A part of a double, after a whole row; before 1, for a list that is no multiple of 3; before 2, for a tolerance that is NaN.
+fn parts_of_doubles(n: u64) -> u64 {
+    let n = tell(n, b"rn10a", bytes_refused(&[0; 25], 0));
+    let n = tell(n, b"rn10b", bytes_refused(&[0; 23], 0));
+    let n = tell(n, b"rn10c", bytes_refused(&[0; 28], 0x7ff8_0000_0000_0000));
+    n
+}
+
 // 01's own, in its order.
 fn paper(n: u64) -> u64 {
     let n = tell(n, b"rc1", cap_given(0.0, 4.0, 3.0, 3.0));
@@ -298,6 +351,7 @@ pub(crate) fn run(n: u64) -> u64 {
     let n = paper(n);
     let n = paper_limits(n);
     let n = refusals(n);
+    let n = parts_of_doubles(n);
     let n = neighbours(n);
     let n = halvings(n);
     n
