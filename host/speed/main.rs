@@ -4,8 +4,8 @@
 //! original and of the library, their ratio, the ratio of times, and the library's instructions for each unit at a quarter, half and the whole of the size,
 //! which must not grow.
 //!
-//! Instructions are counted by running this program under valgrind, or where that is not the program's machine under qemu with the counting plugin, each
-//! operation with one turn and with `TURNS` more: the difference is what the turns took. From a leaf's calls the loop around them is taken off.
+//! Instructions are counted by running this program under valgrind, or under the command that COUNTER names (on Arm: qemu-x86_64 with a plugin that counts and
+//! prints a line "instructions N"), each operation with one turn and with `TURNS` more: the difference is what the turns took. From a leaf's calls the loop around them is taken off.
 
 mod inputs;
 mod original;
