@@ -6,3 +6,4 @@ pub mod Windowed
 pub mod Operands
 pub mod Specials
 pub mod Nearest
+pub mod Settled

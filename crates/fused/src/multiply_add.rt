@@ -8,8 +8,8 @@ use crate::window::narrow;
 use limbs::wide::product;
 use rounding::packing::rounded;
 ghost use mathlib.Core.Path.{_≡_};
-ghost use mathlib.Core.Bool.{_||_, false};
-ghost use lib.Ieee.{binary64, isNan, ofBits};
+ghost use mathlib.Core.Bool.{_||_, _&&_, false, cond};
+ghost use lib.Ieee.{binary64, lt, isNan, ofBits};
 ghost use Rattle.fused.specs.Fused.{fmaOf};
 ghost use Rattle.fused.specs.Steps.{isSpecial};
 
@@ -41,7 +41,7 @@ fn finite(a: u64, b: u64, c: u64) -> f64
 
 // The plain expression rounds twice, which does no harm where one operand is a NaN, or one factor an infinity or a zero. Otherwise a zero that is added
 // leaves the rounded product, and an infinity stays what it is, even where the rounded product would be an infinity too.
-pub fn fma(x: f64, y: f64, z: f64) -> f64
+fn in_whole_numbers(x: f64, y: f64, z: f64) -> f64
     ensures { λ r. ⌜ r ≡ fmaOf binary64 x y z ⌝ }
 {
     if some_nan(x, y, z) {
@@ -65,4 +65,36 @@ pub fn fma(x: f64, y: f64, z: f64) -> f64
         }
     }
     finite(a, b, c)
+}
+
+// Whether p is strictly between the other two, whichever of them is the lesser.
+fn between(a: f64, p: f64, b: f64) -> bool
+    ensures { λ r. ⌜ r ≡ cond (lt a p) (lt p b) (lt b p && lt p a) ⌝ }
+{
+    if a < p {
+        return p < b;
+    }
+    if b < p {
+        return p < a;
+    }
+    false
+}
+
+// The exact product is between two neighbours of the rounded one. Where the sum with either is the same number, so is the sum with what is between them:
+// most often that is so. Of a zero they do not tell the sign.
+pub fn fma(x: f64, y: f64, z: f64) -> f64
+    ensures { λ r. ⌜ r ≡ fmaOf binary64 x y z ⌝ }
+{
+    let p = x * y;
+    let near = p * 0.9999999999999999;
+    let far = p * 1.0000000000000002;
+    let sum = near + z;
+    if sum == far + z {
+        if sum != 0.0 {
+            if between(near, p, far) {
+                return sum;
+            }
+        }
+    }
+    in_whole_numbers(x, y, z)
 }

@@ -22,7 +22,7 @@ signed-number s nan h = absurd h
 signed-number s (inf t) h = tt
 signed-number s (fin t m e) h = tt
 
-rounds-number : (f : Format) (x : Float) (p n d : ℕ) → Rounds f x p n d → T (number x)
+pub rounds-number : (f : Format) (x : Float) (p n d : ℕ) → Rounds f x p n d → T (number x)
 rounds-number f x p n d (inl (a, e)) = rw e (signed-number false (round f false (p - n) d) (round-signed f false (p - n) d))
 rounds-number f x p n d (inr (a, e)) = rw e (signed-number true (round f true (n - p) d) (round-signed f true (n - p) d))
 
@@ -74,7 +74,7 @@ add-commutative f (fin s m e) (inf t) = refl
 add-commutative f (fin s m e) (fin t n d) =
     sum-comm f s (m * up e * down d) t (n * up d * down e) (down e * down d) ∙ ap (sum f t (n * up d * down e) s (m * up e * down d)) (mul-comm (down e) (down d))
 
-add-infinite : (f : Format) (s : Bool) (k : Float) → T (number (add f (inf s) k)) → add f (inf s) k ≡ inf s
+pub add-infinite : (f : Format) (s : Bool) (k : Float) → T (number (add f (inf s) k)) → add f (inf s) k ≡ inf s
 unfolding add
 add-infinite f s nan h = absurd h
 add-infinite f true (inf true) h = refl
@@ -83,7 +83,7 @@ add-infinite f false (inf true) h = absurd h
 add-infinite f false (inf false) h = refl
 add-infinite f s (fin t n d) h = refl
 
-add-fractions : (p n d p' n' d' a b c : ℕ) → AtMost p n d p' n' d' → AtMost (p * c + a * d) (n * c + b * d) (d * c) (p' * c + a * d') (n' * c + b * d') (d' * c)
+pub add-fractions : (p n d p' n' d' a b c : ℕ) → AtMost p n d p' n' d' → AtMost (p * c + a * d) (n * c + b * d) (d * c) (p' * c + a * d') (n' * c + b * d') (d' * c)
 add-fractions p n d p' n' d' a b c h = simp ring (omega (arith, simp ring at (mul-le-mul-right (c * c) h)))
 
 add-rounded : (f : Format) (k x y : Float) → T (finite k) → T (finite x) → T (finite y) → T (le x y) → T (le (add f x k) (add f y k))

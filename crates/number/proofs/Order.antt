@@ -171,7 +171,7 @@ lt-not-le (fin s m e) (fin t n d) h k =
     let b = le→AtMost (fin t n d) (fin s m e) tt tt k in
     omega arith
 
-less-or-not : (a b : ℕ) → (a < b) ⊎ (b ≤ a)
+pub less-or-not : (a b : ℕ) → (a < b) ⊎ (b ≤ a)
 less-or-not a b = go (ltb a b) (ltb→lt a b) (nltb→le a b)
   where
     go : (c : Bool) → (T c → a < b) → (T (not c) → b ≤ a) → (a < b) ⊎ (b ≤ a)

@@ -39,7 +39,7 @@ below-equal x y h = rw (not-less (lt x y) (λ l. lt-not-le x y l (eq-ge x y (hol
     not-less false n = refl
 
 -- equal values of one sign are the same
-equal : (f : Format) (x y : Float) → T (fits f x) → T (fits f y) → eq x y ≡ true → negative x ≡ negative y → x ≡ y
+pub equal : (f : Format) (x y : Float) → T (fits f x) → T (fits f y) → eq x y ≡ true → negative x ≡ negative y → x ≡ y
 equal f x y F G h s =
     let e = holds h in
     same-value f x y F G (eq-le x y e) (eq-ge x y e) (rw s (self (negative y))) (rw s (self (negative y)))
