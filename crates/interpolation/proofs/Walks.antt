@@ -1,23 +1,25 @@
 -- Laws of the walk of t to s: the interval that is carried from a time to the next, and the counts of one time more.
 use Prim.Native.Nat.{ℕ, _+_, _-_, _<_, _≤_}
-use mathlib.Core.Path.{_≡_, refl}
-use mathlib.Core.Bool.{true, not}
+use mathlib.Core.Path.{_≡_, refl, sym, ap, _∙_}
+use mathlib.Core.Bool.{Bool, true, false, not}
 use mathlib.Core.List.{List}
+use mathlib.Core.Logic.{⊎-elim}
+use native.Mathlib.Nat.{add-zero, eq-or-lt-of-le}
 use native.Mathlib.Omega.{arith}
-use borrow.Author.Tests.{not-false, eqb-true, ltb-true}
-use lib.Dec.{eqb, ltb}
+use borrow.Author.Tests.{not-false, not-true, eqb-true, ltb-true, lt-ltb}
+use lib.Dec.{T, eqb, ltb}
 use lib.ListN.{length}
 use lib.Ieee.{Float, binary64, add, sub, lt, le}
 use lib.Ieee.Bits.{is-true}
 use lib.Ieee.Scale.{finite}
-use Rattle.number.proofs.Order.{holds, lt-le-transitive}
+use Rattle.number.proofs.Order.{holds, fails, lt-le-transitive, le-lt-transitive}
 use Rattle.loops.specs.Upto.{count, at}
 use Rattle.loops.specs.Refusals.{unless, _or_}
-use Rattle.loops.proofs.Counting.{and-right, count-le, count-more, first-before, first-le}
+use Rattle.loops.proofs.Counting.{and-left, and-right, count-le, count-more, count-stretch, first-is, first-before, first-le}
 use Rattle.loops.proofs.Refusals.{or-none, unless-none}
 use Rattle.interpolation.specs.Profile.{everyEntry, everyPair, profileNo, speedNo}
-use Rattle.interpolation.specs.Samples.{intervalOf, inverse2order, stationIn, isBefore, isInside, stationAt, countsOf, timedNo}
-use Rattle.interpolation.specs.Parts.{pieceAt, Standing, Bounded, oneMore, tallied}
+use Rattle.interpolation.specs.Samples.{intervalOf, inverse2order, stationIn, isBefore, isInside, isPast, stationAt, countsOf, timedNo}
+use Rattle.interpolation.specs.Parts.{pieceAt, Standing, stays, Bounded, oneMore, moreInside, tallied}
 use Rattle.interpolation.specs.declared.interval.Walk.{Walk}
 use Rattle.interpolation.specs.declared.samples.Counts.{Counts}
 use Rattle.interpolation.proofs.Profiles.{shaped}
@@ -50,6 +52,42 @@ station-held s a t w x e k h i =
     let l = inside-within t x i in
     rw (h .held (omega arith), i, ← k)
 
+pub inside-not-before : (t : List Float) (x : Float) → isInside t x ≡ true → isBefore t x ≡ false
+unfolding isInside
+inside-not-before t x h = not-true (isBefore t x) (and-left (not (isBefore t x)) (ltb (intervalOf t x) (length t - 1)) h)
+
+inside-not-past : (t : List Float) (x : Float) → isInside t x ≡ true → isPast t x ≡ false
+unfolding isPast
+inside-not-past t x h = rw (h, inside-not-before t x h)
+
+not-below-too : (y x z : Float) → le y x ≡ true → lt y z ≡ false → lt x z ≡ false
+not-below-too y x z h e = go (lt x z) (λ l. fails e (le-lt-transitive y x z (holds h) l))
+  where
+    go : (b : Bool) → (T b → ⊥) → b ≡ false
+    go true n = absurd (n tt)
+    go false n = refl
+
+-- a time that stays has the walk's interval, and is inside with the walk's own time
+module _ (s a t : List Float) (w : Walk) (x : Float) (h : Standing s a t w) (k : w .interval ≡ intervalOf t (w .time)) (i : isInside t (w .time) ≡ true) (y : stays t w x ≡ true) where
+  not-below : le (w .time) x ≡ true
+  not-below = and-left (le (w .time) x) (not (lt (at t (w .interval + 1)) x)) y
+
+  pub same-interval : w .interval ≡ intervalOf t x
+  unfolding intervalOf
+  same-interval = sym (first-is _ _ _ (h .within) (λ j l. ap not (still-below _ _ _ (h .behind j l) not-below)) (λ l. and-right (le (w .time) x) (not (lt (at t (w .interval + 1)) x)) y))
+
+  pub stays-inside : isInside t x ≡ true
+  unfolding isInside isBefore
+  stays-inside =
+      let l = inside-within t (w .time) i in
+      let b = not-below-too (w .time) x (at t 0) not-below (inside-not-before t (w .time) i) in
+      rw (b, ← same-interval, lt-ltb (w .interval) (length t - 1) (omega arith))
+
+pub inside-more : (t : List Float) (f : ℕ → Float) (start j : ℕ) → ((k : ℕ) → start ≤ k → k < j → isInside t (f k) ≡ true) → isInside t (f j) ≡ true → (k : ℕ) → start ≤ k → k < j + 1 → isInside t (f k) ≡ true
+inside-more t f start j h i k l g =
+    let m : k ≤ j = omega arith in
+    ⊎-elim (λ e. rw e i) (h k l) (eq-or-lt-of-le m)
+
 pub counts-none : (t : List Float) (f : ℕ → Float) → record { before = 0; inside = 0; past = 0; written = 0 } ≡ countsOf t f 0 0
 unfolding countsOf count
 counts-none t f = refl
@@ -57,6 +95,27 @@ counts-none t f = refl
 pub counts-turn : (t : List Float) (f : ℕ → Float) (n : ℕ) (c : Counts) → c ≡ countsOf t f n n → tallied c t (f n) ≡ countsOf t f (n + 1) (n + 1)
 unfolding countsOf tallied oneMore
 counts-turn t f n c e = rw e (simp count-more)
+
+counts-stretch : (t : List Float) (f : ℕ → Float) (n m : ℕ) (c : Counts) → c ≡ countsOf t f n n → ((k : ℕ) → n ≤ k → k < n + m → isInside t (f k) ≡ true) → moreInside c m ≡ countsOf t f (n + m) (n + m)
+unfolding countsOf moreInside
+counts-stretch t f n m c e h =
+    rw (
+      e,
+      count-stretch (λ j. isBefore t (f j)) false n m (λ k l g. inside-not-before t (f k) (h k l g)),
+      count-stretch (λ j. isInside t (f j)) true n m h,
+      count-stretch (λ j. isPast t (f j)) false n m (λ k l g. inside-not-past t (f k) (h k l g)),
+    )
+    (simp add-zero)
+
+-- the same, up to r
+pub counts-up-to : (t : List Float) (f : ℕ → Float) (n r : ℕ) (c d : Counts) → c ≡ countsOf t f n n → n ≤ r → ((k : ℕ) → n ≤ k → k < r → isInside t (f k) ≡ true) → d ≡ moreInside c (r - n) → d ≡ countsOf t f r r
+counts-up-to t f n r c d e l h g =
+    let q : n + (r - n) ≡ r = omega arith in
+    g ∙ counts-stretch t f n (r - n) c e (λ k a b. h k a (omega arith)) ∙ ap (λ (m : ℕ). countsOf t f m m) q
+
+pub counts-written : (t : List Float) (f : ℕ → Float) (n : ℕ) (c : Counts) → c ≡ countsOf t f n n → c .written ≡ n
+unfolding countsOf
+counts-written t f n c e = rw e
 
 pub counts-bounded : (t : List Float) (f : ℕ → Float) (n : ℕ) (c : Counts) → c ≡ countsOf t f n n → n ≤ 65536 → Bounded c
 unfolding countsOf

@@ -1,13 +1,13 @@
 -- What contracts of inner functions cite, and no public one.
 use Prim.Native.Nat.{ℕ, _+_, _-_, _≤_, _<_}
 use mathlib.Core.Path.{_≡_}
-use mathlib.Core.Bool.{Bool, true, cond}
+use mathlib.Core.Bool.{Bool, true, not, cond, _&&_}
 use mathlib.Core.List.{List}
 use lib.ListN.{length, set}
-use lib.Ieee.{Float, binary64, lt}
+use lib.Ieee.{Float, binary64, lt, le}
 use lib.Ieee.Scale.{finite}
 use Rattle.roots.specs.Root.{sqrtOf}
-use Rattle.loops.specs.Upto.{at}
+use Rattle.loops.specs.Upto.{at, filled}
 use Rattle.interpolation.specs.Profile.{notBelowZero, notBothZero}
 use Rattle.interpolation.specs.Samples.{c1At, isBefore, isInside, isPast}
 use Rattle.interpolation.specs.Grid.{gridTime}
@@ -45,6 +45,17 @@ pub record Standing (s a t : List Float) (w : Walk) : Type 0 where
   pub behind : (k : ℕ) → k < w .interval → lt (at t (k + 1)) (w .time) ≡ true
   pub held : w .interval + 1 < length s → w .piece ≡ pieceAt s a t (w .interval)
 
+-- x is not below the walk's time, nor past the end of its interval
+abbrev pub stays : List Float → Walk → Float → Bool
+stays t w x = le (w .time) x && not (lt (at t (w .interval + 1)) x)
+
+-- the times from `start` up to r are inside, and the first r entries are those of f
+pub record Followed (t : List Float) (x f : ℕ → Float) (start n r : ℕ) (old new : List Float) : Type 0 where
+  pub onward : start ≤ r
+  pub within : r ≤ n
+  pub inside : (k : ℕ) → start ≤ k → k < r → isInside t (x k) ≡ true
+  pub left : new ≡ filled f r old
+
 -- no count is over the entries, and these are 65,536 at most
 pub record Bounded (c : Counts) : Type 0 where
   pub few-before : c .before ≤ c .written
@@ -55,6 +66,10 @@ pub record Bounded (c : Counts) : Type 0 where
 -- one entry more, and what it adds to the times before, inside and past
 unfoldable pub oneMore : Counts → ℕ → ℕ → ℕ → Counts
 oneMore c b i p = record { before = c .before + b; inside = c .inside + i; past = c .past + p; written = c .written + 1 }
+
+-- m entries more, each inside
+unfoldable pub moreInside : Counts → ℕ → Counts
+moreInside c m = record { before = c .before; inside = c .inside + m; past = c .past; written = c .written + m }
 
 -- the entry of time x
 unfoldable pub tallied : Counts → List Float → Float → Counts

@@ -90,7 +90,7 @@ fn turned(p: Piece, s: &[f64], a: &[f64], t: &[f64], old: usize, k: usize) -> Pi
 
 pub(crate) fn advance(w: Walk, s: &[f64], a: &[f64], t: &[f64], x: f64) -> Walk
     requires { ⌜ (length (now a) ≡ length (now s)) × (length (now t) ≡ length (now s)) × Standing (now s) (now a) (now t) w ⌝ }
-    ensures { λ r. ⌜ (r .interval ≡ intervalOf (now (t .entry)) x) × Standing (now (s .entry)) (now (a .entry)) (now (t .entry)) r ⌝ }
+    ensures { λ r. ⌜ (r .interval ≡ intervalOf (now (t .entry)) x) × (r .time ≡ x) × Standing (now (s .entry)) (now (a .entry)) (now (t .entry)) r ⌝ }
 {
     let k = interval_from(t, x, look_from(t, x, w.time, w.interval));
     Walk {

@@ -5,8 +5,8 @@ use crate::checks::Pair;
 use crate::interval;
 use crate::interval::Walk;
 ghost use mathlib.Core.Path.{_≡_};
-ghost use mathlib.Core.Bool.{not, cond, _&&_};
-ghost use Prim.Native.Nat.{_≤_};
+ghost use mathlib.Core.Bool.{true, not, cond, _&&_};
+ghost use Prim.Native.Nat.{_+_, _≤_, _<_};
 ghost use lib.Dec.{eqb};
 ghost use lib.ListN.{length};
 ghost use lib.Ieee.{lt};
@@ -16,7 +16,7 @@ ghost use Rattle.loops.specs.Refusals.{unless, _or_};
 ghost use Rattle.interpolation.specs.Profile.{everyEntry, everyPair};
 ghost use Rattle.interpolation.specs.Samples.{intervalOf, isBefore, isInside, stationAt, countsOf, timedNo};
 ghost use Rattle.interpolation.specs.Grid.{gridTime};
-ghost use Rattle.interpolation.specs.Parts.{timeOf, Bounded, oneMore, tallied, Standing};
+ghost use Rattle.interpolation.specs.Parts.{timeOf, Bounded, oneMore, moreInside, tallied, Standing, stays, Followed};
 
 // The times before, inside and past, and the entries written.
 pub struct Counts {
@@ -105,6 +105,18 @@ fn tally(c: Counts, t: &[f64], x: f64, k: usize) -> Counts
     one_more(c, one(before), one(inside), one(neither(before, inside)))
 }
 
+fn more_inside(c: Counts, m: usize) -> Counts
+    requires { ⌜ (c .written + m ≤ 65536) × Bounded c ⌝ }
+    ensures { λ r. ⌜ r ≡ moreInside c m ⌝ }
+{
+    Counts {
+        before: c.before,
+        inside: c.inside + m,
+        past: c.past,
+        written: c.written + m,
+    }
+}
+
 // The station at x, where the walk stands at x.
 fn station(s: &[f64], a: &[f64], t: &[f64], w: Walk, x: f64) -> f64
     requires { ⌜ (length (now t) ≡ length (now s)) × (1 ≤ length (now t)) × (w .interval ≡ intervalOf (now t) x) × Standing (now s) (now a) (now t) w ⌝ }
@@ -115,6 +127,67 @@ fn station(s: &[f64], a: &[f64], t: &[f64], w: Walk, x: f64) -> f64
     } else {
         0.0 / 0.0
     }
+}
+
+fn stays(t: &[f64], w: Walk, x: f64) -> bool
+    requires { ⌜ w .interval + 1 < length (now t) ⌝ }
+    ensures { λ r. ⌜ r ≡ stays (now (t .entry)) w x ⌝ }
+{
+    if w.time <= x {
+        !(t[w.interval + 1] < x)
+    } else {
+        false
+    }
+}
+
+// The times from `start` on that stay in the walk's interval, whose time is inside: no search is needed for them.
+fn follow(
+    s: &[f64],
+    a: &[f64],
+    t: &[f64],
+    w: Walk,
+    source: Source,
+    x: &[f64],
+    start: usize,
+    n: usize,
+    out: &mut [f64],
+) -> usize
+    requires { ⌜ (length (now t) ≡ length (now s)) × Standing (now s) (now a) (now t) w × (w .interval ≡ intervalOf (now t) (w .time)) × (isInside (now t) (w .time) ≡ true) × (start ≤ n) × (n ≤ length (now out))
+        × (now out ≡ filled (λ j. stationAt (now s) (now a) (now t) (timeOf source (now x) j)) start (now out)) ⌝ }
+    ensures { λ r. ⌜ Followed (now (t .entry)) (timeOf source (now (x .entry))) (λ j. stationAt (now (s .entry)) (now (a .entry)) (now (t .entry)) (timeOf source (now (x .entry)) j)) start n r (now (out .entry)) (now (out .exit)) ⌝ }
+{
+    let mut j = start;
+    while j < n {
+        let v = time_of(source, x, j);
+        if !stays(t, w, v) {
+            return j;
+        }
+        out[j] = interval::inside(w.piece, v);
+        j += 1;
+    }
+    j
+}
+
+// The same, where the walk's time may be before or past: then no time follows.
+fn followers(
+    s: &[f64],
+    a: &[f64],
+    t: &[f64],
+    w: Walk,
+    source: Source,
+    x: &[f64],
+    start: usize,
+    n: usize,
+    out: &mut [f64],
+) -> usize
+    requires { ⌜ (length (now t) ≡ length (now s)) × (1 ≤ length (now t)) × Standing (now s) (now a) (now t) w × (w .interval ≡ intervalOf (now t) (w .time)) × (start ≤ n) × (n ≤ length (now out))
+        × (now out ≡ filled (λ j. stationAt (now s) (now a) (now t) (timeOf source (now x) j)) start (now out)) ⌝ }
+    ensures { λ r. ⌜ Followed (now (t .entry)) (timeOf source (now (x .entry))) (λ j. stationAt (now (s .entry)) (now (a .entry)) (now (t .entry)) (timeOf source (now (x .entry)) j)) start n r (now (out .entry)) (now (out .exit)) ⌝ }
+{
+    if is_inside(t, w.time, w.interval) {
+        return follow(s, a, t, w, source, x, start, n, out);
+    }
+    start
 }
 
 // The first n times of the source, walked in order.
@@ -148,7 +221,9 @@ pub(crate) fn t_to_s_topp2_core(
         w = interval::advance(w, s, a, t, v);
         out[j] = station(s, a, t, w, v);
         c = tally(c, t, v, w.interval);
-        j += 1;
+        let next = followers(s, a, t, w, source, x, j + 1, n, out);
+        c = more_inside(c, next - (j + 1));
+        j = next;
     }
     c
 }

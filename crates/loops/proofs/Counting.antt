@@ -107,3 +107,20 @@ first-le p n = omega (arith, seek-le p 0 n)
 pub count-more : (p : ℕ → Bool) (n : ℕ) → count p (n + 1) ≡ count p n + cond (p n) 1 0
 unfolding count
 count-more p n = rw add-one
+
+-- a stretch that has one answer
+pub count-stretch : (p : ℕ → Bool) (b : Bool) (j m : ℕ) → ((k : ℕ) → j ≤ k → k < j + m → p k ≡ b) → count p (j + m) ≡ count p j + cond b m 0
+count-stretch p b j zero h =
+    let e : j + 0 ≡ j = omega arith in
+    ap (count p) e ∙ go b
+  where
+    go : (b : Bool) → count p j ≡ count p j + cond b 0 0
+    go true = omega arith
+    go false = omega arith
+count-stretch p b j (suc m) h =
+    let e : j + suc m ≡ j + m + 1 = omega arith in
+    ap (count p) e ∙ count-more p (j + m) ∙ rw (h (j + m) (omega arith) (omega arith), count-stretch p b j m (λ k l g. h k l (omega arith))) (go b)
+  where
+    go : (b : Bool) → count p j + cond b m 0 + cond b 1 0 ≡ count p j + cond b (suc m) 0
+    go true = omega arith
+    go false = omega arith

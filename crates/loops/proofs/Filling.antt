@@ -2,12 +2,12 @@
 use mathlib.Core.Path.{_≡_, refl, sym, ap, _∙_}
 use mathlib.Core.Logic.{⊎-elim}
 use mathlib.Core.List.{List, [], _∷_, _++_, append-nil}
-use Prim.Native.Nat.{ℕ, zero, suc, _+_, _<_, _≤_}
+use Prim.Native.Nat.{ℕ, zero, suc, _+_, _-_, _<_, _≤_}
 use native.Mathlib.Numerals.{add-one}
 use native.Mathlib.Nat.{eq-or-lt-of-le, le-of-suc-le-suc}
 use native.Mathlib.Omega.{arith}
 use lib.ListN.{length, getD, set, drop, length-append, length-drop, length-set, drop-of-length-le, List·getD-append}
-use lib.Seq.{drop-cons, set-at, append-snoc, drop-set-lt, set-set, getD-at}
+use lib.Seq.{drop-cons, set-at, append-snoc, drop-append-add, drop-drop, drop-set-lt, set-set, getD-at}
 use lib.Ieee.{Float, nan}
 use Rattle.loops.specs.Upto.{table, filled, at}
 
@@ -42,6 +42,20 @@ fill-first f old v h e =
 pub length-filled : {A : Type 0} (f : ℕ → A) (n : ℕ) (old : List A) → n ≤ length old → length (filled f n old) ≡ length old
 unfolding filled
 length-filled f n old h = simp (length-append, length-table, length-drop) (omega arith)
+
+-- what is filled further need not have been filled before
+pub fill-again : {A : Type 0} (f : ℕ → A) (n m : ℕ) (old : List A) → n ≤ m → filled f m (filled f n old) ≡ filled f m old
+unfolding filled
+fill-again f n m old h =
+    let e : m ≡ length (table f n) + (m - n) = omega (arith, length-table f n) in
+    let g : n + (m - n) ≡ m = omega arith in
+    ap (λ l. table f m ++ l) (ap (λ (k : ℕ). drop k (table f n ++ drop n old)) e ∙ drop-append-add (table f n) (drop n old) (m - n) ∙ drop-drop (m - n) n old ∙ ap (λ (k : ℕ). drop k old) g)
+
+pub fill-on : {A : Type 0} (f : ℕ → A) (n m : ℕ) (old l k : List A) → n ≤ m → l ≡ filled f n old → k ≡ filled f m l → k ≡ filled f m old
+fill-on f n m old l k h e g = g ∙ ap (filled f m) e ∙ fill-again f n m old h
+
+pub fill-stands : {A : Type 0} (f : ℕ → A) (n : ℕ) (old l : List A) → l ≡ filled f n old → l ≡ filled f n l
+fill-stands f n old l e = e ∙ sym (fill-again f n n old (omega arith)) ∙ ap (filled f n) (sym e)
 
 -- a list that is filled to its end
 pub fill-all : {A : Type 0} (f : ℕ → A) (n : ℕ) (old : List A) → length old ≤ n → filled f n old ≡ table f n

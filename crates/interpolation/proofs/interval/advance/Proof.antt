@@ -1,4 +1,5 @@
 -- `interpolation::interval::advance` meets its contract. Assumes nothing.
+use mathlib.Core.Path.{refl}
 use Rattle.loops.specs.Upto.{at}
 use Rattle.interpolation.proofs.Walks.{interval-le, interval-fits, ends-below}
 use Rattle.interpolation.proofs.interval.advance.Statement.{statement}
@@ -18,7 +19,7 @@ turned-requires c κs =
 returns : tie.Need-returns
 returns c =
     let e = c .before .interval-from .ensures in
-    (e, record { within = rw e (interval-le _ _); behind = λ k h. ends-below _ _ k (rw e at h); held = c .turned .ensures })
+    (e, refl, record { within = rw e (interval-le _ _); behind = λ k h. ends-below _ _ k (rw e at h); held = c .turned .ensures })
 
 pub advance-spec : {M : Type 1} → statement M
 advance-spec =

@@ -1,14 +1,14 @@
 -- `interpolation::samples::t_to_s_topp2_core` meets its contract. Assumes nothing.
 use Prim.Native.Nat.{_≤_, _-_}
-use mathlib.Core.Path.{_≡_, refl, sym, _∙_}
+use mathlib.Core.Path.{_≡_, refl, sym, ap, _∙_}
 use native.Mathlib.Omega.{arith}
 use borrow.Author.Needs.{needs}
 use lib.ListN.{length, length-set}
 use Rattle.loops.specs.Upto.{filled, at}
-use Rattle.loops.proofs.Filling.{fill-none, fill-turn}
+use Rattle.loops.proofs.Filling.{length-filled, fill-none, fill-turn, fill-on, fill-stands}
 use Rattle.interpolation.specs.Samples.{stationAt, countsOf}
 use Rattle.interpolation.specs.Parts.{timeOf, Standing}
-use Rattle.interpolation.proofs.Walks.{counts-none, counts-turn, counts-bounded}
+use Rattle.interpolation.proofs.Walks.{counts-none, counts-turn, counts-up-to, counts-written, counts-bounded}
 use Rattle.interpolation.proofs.samples.t_to_s_topp2_core.Statement.{statement}
 use Rattle.interpolation.proofs.samples.t_to_s_topp2_core.Tie as tie
 
@@ -35,7 +35,7 @@ advance-requires : tie.Need-advance-requires Inv-loop μ-loop
 advance-requires c κs = (search needs, search needs, c .before .before .loop .inv .3)
 
 station-requires : tie.Need-station-requires Inv-loop μ-loop
-station-requires c κs = (search needs, search needs, c .advance .ensures .0, c .advance .ensures .1)
+station-requires c κs = (search needs, search needs, c .advance .ensures .0, c .advance .ensures .2)
 
 mul-out : tie.Need-mul-out Inv-loop μ-loop
 mul-out c = search needs
@@ -48,24 +48,45 @@ tally-requires c κs =
     let l = c .before .before .before .before .loop .inv in
     (search needs, c .before .advance .ensures .0, counts-bounded _ _ _ _ (l .4) (omega arith))
 
-add-j : tie.Need-add-j Inv-loop μ-loop
-add-j c = search needs
+add-followers : tie.Need-add-followers Inv-loop μ-loop
+add-followers c = search needs
+
+followers-requires : tie.Need-followers-requires Inv-loop μ-loop
+followers-requires c κs =
+    let l = c .before .before .before .before .before .before .loop .inv in
+    let w = c .before .before .before .advance .ensures in
+    let v = c .before .before .before .before .time-of .ensures in
+    let e = fill-turn _ _ _ _ _ (omega arith) (l .6) (rw v at (c .before .before .station .ensures)) in
+    let p = c .before .before .before .before .before .before .before .before .before .before .before .before .before .pre in
+    (p .1, omega (arith, p .1, p .2), w .2, rw (w .1) (w .0), search needs, simp length-set (l .2), fill-stands _ _ _ _ e)
+
+add-more-inside : tie.Need-add-more-inside Inv-loop μ-loop
+add-more-inside c = search needs
+
+sub-more-inside : tie.Need-sub-more-inside Inv-loop μ-loop
+sub-more-inside c = omega (arith, c .before .before .followers .ensures .onward)
+
+more-inside-requires : tie.Need-more-inside-requires Inv-loop μ-loop
+more-inside-requires c κs =
+    let l = c .before .before .before .before .before .before .before .before .before .loop .inv in
+    let v = c .before .before .before .before .before .before .before .time-of .ensures in
+    let f = c .before .before .followers .ensures in
+    let d = (rw v at (c .before .before .before .before .tally .ensures)) ∙ counts-turn _ _ _ _ (l .4) in
+    (omega (arith, counts-written _ _ _ _ d, f .onward, f .within, l .1), counts-bounded _ _ _ _ d (omega arith))
 
 loop-less : tie.Need-loop-less Inv-loop μ-loop
-loop-less c = search needs
+loop-less c = omega (arith, c .before .before .before .followers .ensures .onward, c .before .before .before .followers .ensures .within)
 
 loop-again : tie.Need-loop-again Inv-loop μ-loop
 loop-again c =
-    let l = c .before .before .before .before .before .loop .inv in
-    let v = c .before .before .before .time-of .ensures in (
-      search needs,
-      l .1,
-      simp length-set (l .2),
-      c .before .before .advance .ensures .1,
-      (rw v at (c .tally .ensures)) ∙ counts-turn _ _ _ _ (l .4),
-      simp length-set (l .5),
-      fill-turn _ _ _ _ _ (omega arith) (l .6) (rw v at (c .before .station .ensures)),
-    )
+    let l = c .before .before .before .before .before .before .before .before .before .before .loop .inv in
+    let v = c .before .before .before .before .before .before .before .before .time-of .ensures in
+    let f = c .before .before .before .followers .ensures in
+    let e = fill-turn _ _ _ _ _ (omega arith) (l .6) (rw v at (c .before .before .before .before .before .before .station .ensures)) in
+    let d = (rw v at (c .before .before .before .before .before .tally .ensures)) ∙ counts-turn _ _ _ _ (l .4) in
+    let g = fill-on _ _ _ _ _ _ (f .onward) e (f .left) in
+    let q = ap length g ∙ length-filled _ _ _ (omega (arith, f .within, l .2, l .5)) in
+    (f .within, l .1, omega (arith, q, l .2, l .5), c .before .before .before .before .before .before .before .advance .ensures .2, counts-up-to _ _ _ _ _ _ d (f .onward) (f .inside) (c .more-inside .ensures), q, g)
 
 same-length : tie.Need-same-length Inv-loop μ-loop
 same-length c = search needs
@@ -90,7 +111,11 @@ t-to-s-topp2-core-spec =
     mul-out
     slice-write-out
     tally-requires
-    add-j
+    add-followers
+    followers-requires
+    add-more-inside
+    sub-more-inside
+    more-inside-requires
     loop-less
     loop-again
     same-length
