@@ -7,10 +7,10 @@ use native.Mathlib.Omega.{arith}
 use borrow.Author.Tests.{lt-ltb, lt-leb}
 use lib.ListN.{length}
 use lib.Ieee.{Float}
-use Rattle.interpolation.specs.Samples.{timedNo}
-use Rattle.interpolation.specs.List.{samplesNo, listNo}
-use Rattle.interpolation.specs.Grid.{gridNo}
-use Rattle.interpolation.proofs.Walks.{timed}
+use Rattle.sampling.specs.Samples.{timedNo}
+use Rattle.sampling.specs.List.{samplesNo, listNo}
+use Rattle.sampling.specs.Grid.{gridNo}
+use Rattle.sampling.proofs.Walks.{timed}
 use Rattle.interpolation.proofs.Outcomes.{or-stop}
 use Rattle.byte_lists.specs.Bytes.{doublesOf}
 use Rattle.conversions.specs.Stations.{lengthsNo}

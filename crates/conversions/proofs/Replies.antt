@@ -18,12 +18,12 @@ use Rattle.loops.proofs.Refusals.{only-done, only-kept, or-assoc, or-none, unle
 use Rattle.loops.proofs.Counting.{and-left, and-right}
 use Rattle.loops.proofs.Filling.{fill-none, fill-same, filled-at, length-filled}
 use Rattle.interpolation.specs.Outcome.{answered, Outcome}
-use Rattle.interpolation.specs.Samples.{countsOf}
+use Rattle.sampling.specs.Samples.{countsOf}
 use Rattle.interpolation.specs.Profile.{everyEntry, everyPair, profileNo}
 use Rattle.interpolation.proofs.Outcomes.{or-stop}
-use Rattle.interpolation.specs.declared.samples.Counts.{Counts}
-use Rattle.interpolation.specs.declared.samples.Sampled.{Sampled}
-use Rattle.interpolation.specs.declared.samples.Sampled.the-variants.{Done, Refused}
+use Rattle.sampling.specs.declared.samples.Counts.{Counts}
+use Rattle.sampling.specs.declared.samples.Sampled.{Sampled}
+use Rattle.sampling.specs.declared.samples.Sampled.the-variants.{Done, Refused}
 use Rattle.byte_lists.specs.Bytes.{doublesOf, byteOf}
 use Rattle.conversions.specs.Stations.{Replied, Answered, entriesOf, lengthsNo}
 use Rattle.byte_lists.proofs.Fronts.{length-doubles}

@@ -11,16 +11,16 @@ use Rattle.loops.specs.Refusals.{unless, _or_, onlyIf}
 use Rattle.interpolation.specs.Slopes.{slope, slopesNo}
 use Rattle.interpolation.specs.Times.{timeAt, timesNo}
 use Rattle.interpolation.specs.Outcome.{Outcome}
-use Rattle.interpolation.specs.Samples.{stationAt, countsOf}
-use Rattle.interpolation.specs.List.{listNo}
-use Rattle.interpolation.specs.Grid.{gridTime, gridSize, gridNo, gridEntry, gridEntries}
+use Rattle.sampling.specs.Samples.{stationAt, countsOf}
+use Rattle.sampling.specs.List.{listNo}
+use Rattle.sampling.specs.Grid.{gridTime, gridSize, gridNo, gridEntry, gridEntries}
 use Rattle.interpolation.specs.declared.slopes.Sloped.{Sloped}
 use Rattle.interpolation.specs.declared.slopes.Sloped.the-variants as sloped
 use Rattle.interpolation.specs.declared.times.Timed.{Timed}
 use Rattle.interpolation.specs.declared.times.Timed.the-variants as timed
-use Rattle.interpolation.specs.declared.samples.Counts.{Counts}
-use Rattle.interpolation.specs.declared.samples.Sampled.{Sampled}
-use Rattle.interpolation.specs.declared.samples.Sampled.the-variants as sampled
+use Rattle.sampling.specs.declared.samples.Counts.{Counts}
+use Rattle.sampling.specs.declared.samples.Sampled.{Sampled}
+use Rattle.sampling.specs.declared.samples.Sampled.the-variants as sampled
 use Rattle.byte_lists.specs.Bytes.{inEights, doublesOf, byteOf}
 
 -- what a call with this refusal number leaves: success writes the bytes of entry 0 .. entry (n - 1) at the front of the output and no more, refusal writes nothing

@@ -2,12 +2,12 @@
 use crate::profile;
 use crate::samples;
 use byte_lists::doubles;
-use interpolation::grid::t_to_s_topp2_grid;
-use interpolation::samples::Sampled;
+use sampling::grid::t_to_s_topp2_grid;
+use sampling::samples::Sampled;
 ghost use Prim.Native.Nat.{_/_, _≤_, min};
 ghost use lib.ListN.{length};
-ghost use Rattle.interpolation.specs.Samples.{countsOf};
-ghost use Rattle.interpolation.specs.Grid.{gridTime, gridSize, gridNo, gridEntry, gridEntries};
+ghost use Rattle.sampling.specs.Samples.{countsOf};
+ghost use Rattle.sampling.specs.Grid.{gridTime, gridSize, gridNo, gridEntry, gridEntries};
 ghost use Rattle.byte_lists.specs.Bytes.{doublesOf};
 ghost use Rattle.conversions.specs.Stations.{Answered, GridAnswered, gridByteNo};
 

@@ -2,13 +2,13 @@
 use crate::profile;
 use crate::samples;
 use byte_lists::doubles;
-use interpolation::list::t_to_s_topp2_list;
-use interpolation::samples::Sampled;
+use sampling::list::t_to_s_topp2_list;
+use sampling::samples::Sampled;
 ghost use Prim.Native.Nat.{_/_, _≤_};
 ghost use lib.ListN.{length};
 ghost use Rattle.loops.specs.Upto.{at};
-ghost use Rattle.interpolation.specs.Samples.{stationAt, countsOf};
-ghost use Rattle.interpolation.specs.List.{listNo};
+ghost use Rattle.sampling.specs.Samples.{stationAt, countsOf};
+ghost use Rattle.sampling.specs.List.{listNo};
 ghost use Rattle.byte_lists.specs.Bytes.{doublesOf};
 ghost use Rattle.conversions.specs.Stations.{Answered, ListAnswered, listByteNo};
 

@@ -1,11 +1,11 @@
 // t to s on byte lists: what the list and the even grid share.
 use byte_lists::doubles;
-use interpolation::samples;
-use interpolation::samples::Sampled;
+use sampling::samples;
+use sampling::samples::Sampled;
 ghost use mathlib.Core.Path.{_≡_};
 ghost use Prim.Native.Nat.{_/_, _≤_};
 ghost use lib.ListN.{length};
-ghost use Rattle.interpolation.specs.Samples.{timedNo};
+ghost use Rattle.sampling.specs.Samples.{timedNo};
 ghost use Rattle.byte_lists.specs.Bytes.{doublesOf};
 ghost use Rattle.conversions.specs.Stations.{entriesOf};
 

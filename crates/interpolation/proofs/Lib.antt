@@ -2,5 +2,3 @@ pub mod Outcomes
 pub mod Fronts
 pub mod Profiles
 pub mod Timing
-pub mod Walks
-pub mod Samplings

@@ -1,4 +1,6 @@
 // The checks of a profile, 11 to 15, 17 and 18, and what they are made of. Lengths come first, so that no list over its limit is walked.
+use loops::chain::or;
+use loops::chain::unless;
 use number::size;
 ghost use mathlib.Core.Path.{_≡_};
 ghost use lib.Ieee.{lt};
@@ -14,7 +16,7 @@ pub(crate) enum Entry {
 }
 
 // .. and of each entry with the next.
-pub(crate) enum Pair {
+enum Pair {
     Rising,
     NotBothZero,
 }
@@ -51,7 +53,7 @@ pub(crate) fn every_entry(test: Entry, x: &[f64]) -> bool
     true
 }
 
-pub(crate) fn every_pair(test: Pair, x: &[f64]) -> bool
+fn every_pair(test: Pair, x: &[f64]) -> bool
     ensures { λ r. ⌜ r ≡ everyPair (pairTest test) (now (x .entry)) ⌝ }
 {
     let mut i = 0;
@@ -65,18 +67,12 @@ pub(crate) fn every_pair(test: Pair, x: &[f64]) -> bool
     true
 }
 
-// A refusal: 0 where the test passes.
-pub(crate) fn unless(ok: bool, number: u64) -> u64
-    ensures { λ r. ⌜ r ≡ unless ok number ⌝ }
+// A list that is finite and strictly increasing, or the number of the first fault.
+pub fn check_rising(x: &[f64], infinite: u64, falls: u64) -> u64
+    ensures { λ r. ⌜ r ≡ unless (everyEntry finite (now (x .entry))) infinite or unless (everyPair lt (now (x .entry))) falls ⌝ }
 {
-    if ok { 0 } else { number }
-}
-
-// The first of two refusals.
-pub(crate) fn or(number: u64, later: u64) -> u64
-    ensures { λ r. ⌜ r ≡ number or later ⌝ }
-{
-    if number == 0 { later } else { number }
+    let later = unless(every_pair(Pair::Rising, x), falls);
+    or(unless(every_entry(Entry::Finite, x), infinite), later)
 }
 
 // 13 to 15
@@ -89,7 +85,7 @@ fn entries(s: &[f64], a: &[f64]) -> u64
 }
 
 // 11 to 15
-pub(crate) fn check_topp2_sa(s: &[f64], a: &[f64]) -> u64
+pub fn check_topp2_sa(s: &[f64], a: &[f64]) -> u64
     ensures { λ r. ⌜ r ≡ profileNo (now (s .entry)) (now (a .entry)) ⌝ }
 {
     if s.len() < 2 {
@@ -105,7 +101,7 @@ pub(crate) fn check_topp2_sa(s: &[f64], a: &[f64]) -> u64
 }
 
 // 17 and 18
-pub(crate) fn check_topp2_time_denominator(a: &[f64]) -> u64
+pub fn check_topp2_time_denominator(a: &[f64]) -> u64
     ensures { λ r. ⌜ r ≡ speedNo (now (a .entry)) ⌝ }
 {
     let stands = unless(every_pair(Pair::NotBothZero, a), 18);

@@ -1,8 +1,5 @@
-// Stations, speeds, times: the Rust's interpolation.rs. Document 01, "Stations, speeds, times", decides.
-mod checks;
-pub mod grid;
-mod interval;
-pub mod list;
-pub mod samples;
+// Stations, speeds, times: a to b and s to t of the Rust's interpolation.rs, and the checks of a profile. Document 01, "Stations, speeds, times", decides;
+// t to s is in crate `sampling`.
+pub mod checks;
 pub mod slopes;
 pub mod times;

@@ -1,5 +1,6 @@
 // a to b: half the slope of the squared speed over each pair of stations.
 use crate::checks;
+use loops::chain::unless;
 ghost use mathlib.Core.Path.{_≡_};
 ghost use Prim.Native.Nat.{_+_, _-_, _<_, _≤_};
 ghost use lib.ListN.{length};
@@ -18,7 +19,7 @@ fn refusal(s: &[f64], a: &[f64], room: usize) -> u64
 {
     let number = checks::check_topp2_sa(s, a);
     if number == 0 {
-        checks::unless(s.len() - 1 <= room, 29)
+        unless(s.len() - 1 <= room, 29)
     } else {
         number
     }

@@ -1,6 +1,8 @@
 // s to t: the time at each station, added up from the left.
 use crate::checks;
 use crate::checks::Entry;
+use loops::chain::or;
+use loops::chain::unless;
 use number::size;
 use roots::square_root;
 ghost use mathlib.Core.Path.{_≡_};
@@ -22,11 +24,11 @@ fn refusal(s: &[f64], a: &[f64], t0: f64, room: usize) -> u64
 {
     let number = checks::check_topp2_sa(s, a);
     if number == 0 {
-        let short = checks::or(
+        let short = or(
             checks::check_topp2_time_denominator(a),
-            checks::unless(s.len() <= room, 29),
+            unless(s.len() <= room, 29),
         );
-        checks::or(checks::unless(size::finite(t0), 16), short)
+        or(unless(size::finite(t0), 16), short)
     } else {
         number
     }

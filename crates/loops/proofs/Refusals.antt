@@ -27,3 +27,10 @@ unless-none false n h e = absurd (h e)
 pub or-assoc : (a b c : ℕ) → (a or b) or c ≡ a or (b or c)
 or-assoc zero b c = refl
 or-assoc (suc a) b c = refl
+
+-- a test in a chain, and the last one: what the code's steps give is what a definition says
+pub tested : {r : ℕ} {b p : Bool} (n : ℕ) → r ≡ unless b n → b ≡ p → r ≡ unless p n
+tested n e t = rw (e, t)
+
+pub chained : {r first later rest : ℕ} {b p : Bool} (n : ℕ) → r ≡ first or later → first ≡ unless b n → b ≡ p → later ≡ rest → r ≡ unless p n or rest
+chained n e f t l = rw (e, f, t, l)

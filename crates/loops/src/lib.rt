@@ -1,1 +1,2 @@
-// What a counting loop tests and fills, and rows in threes: definitions and laws that the proofs of loops cite. No code.
+// What a counting loop tests and fills, rows in threes, and refusals in order: definitions and laws that the proofs of loops cite, and two functions.
+pub mod chain;

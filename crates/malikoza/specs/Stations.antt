@@ -8,9 +8,9 @@ use lib.Ieee.{Float}
 use Rattle.loops.specs.Upto.{filled}
 use Rattle.loops.specs.Refusals.{onlyIf}
 use Rattle.interpolation.specs.Outcome.{answered}
-use Rattle.interpolation.specs.declared.samples.Counts.{Counts}
-use Rattle.interpolation.specs.declared.samples.Sampled.{Sampled}
-use Rattle.interpolation.specs.declared.samples.Sampled.the-variants.{Done, Refused}
+use Rattle.sampling.specs.declared.samples.Counts.{Counts}
+use Rattle.sampling.specs.declared.samples.Sampled.{Sampled}
+use Rattle.sampling.specs.declared.samples.Sampled.the-variants.{Done, Refused}
 use Rattle.byte_lists.specs.Bytes.{byteOf}
 
 -- 01's number and values for each case of the answer: a refusal leaves what there was

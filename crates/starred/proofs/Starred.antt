@@ -18,9 +18,9 @@ use Rattle.loops.specs.Upto.{every, count, seek, first, table, filled}
 use Rattle.interpolation.specs.Profile.{everyEntry, everyPair, notBelowZero, notBothZero, profileNo, speedNo}
 use Rattle.interpolation.specs.Slopes.{slope, slopesNo}
 use Rattle.interpolation.specs.Times.{leg, legTime, timeAt, timesFinite, startNo, timesNo}
-use Rattle.interpolation.specs.Samples.{intervalOf, inverse2order, c1At, stationIn, isBefore, isInside, isPast, stationAt, countsOf, timedNo}
-use Rattle.interpolation.specs.List.{samplesNo, listNo}
-use Rattle.interpolation.specs.Grid.{lastOf, gridSize, gridTime, finalAdded, evenNo, gridNo, gridStation, gridEntry, gridEntries}
+use Rattle.sampling.specs.Samples.{intervalOf, inverse2order, c1At, stationIn, isBefore, isInside, isPast, stationAt, countsOf, timedNo}
+use Rattle.sampling.specs.List.{samplesNo, listNo}
+use Rattle.sampling.specs.Grid.{lastOf, gridSize, gridTime, finalAdded, evenNo, gridNo, gridStation, gridEntry, gridEntries}
 use Rattle.starred.specs.Cases.{AllHold, starred}
 
 pub starred-hold : AllHold starred

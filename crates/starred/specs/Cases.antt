@@ -13,13 +13,13 @@ use Rattle.topp2_ra.specs.declared.answer.Answer.{Answer}
 use Rattle.topp2_ra.specs.declared.answer.Answer.the-variants.{Certified, Refused}
 use Rattle.interpolation.specs.Slopes.{Slopes}
 use Rattle.interpolation.specs.Times.{Times}
-use Rattle.interpolation.specs.List.{Listed}
-use Rattle.interpolation.specs.Grid.{Gridded}
+use Rattle.sampling.specs.List.{Listed}
+use Rattle.sampling.specs.Grid.{Gridded}
 use Rattle.interpolation.specs.declared.times.Timed.{Timed}
 use Rattle.interpolation.specs.declared.times.Timed.the-variants.{Done as Timed·Done}
 use Rattle.interpolation.specs.declared.slopes.Sloped.the-variants.{Done as Sloped·Done}
-use Rattle.interpolation.specs.declared.samples.Counts.{Counts}
-use Rattle.interpolation.specs.declared.samples.Sampled.the-variants.{Done as Sampled·Done}
+use Rattle.sampling.specs.declared.samples.Counts.{Counts}
+use Rattle.sampling.specs.declared.samples.Sampled.the-variants.{Done as Sampled·Done}
 
 -- what is asked, and what the answer is
 pub data Case : Type 0 where

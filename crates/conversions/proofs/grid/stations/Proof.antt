@@ -9,11 +9,11 @@ use lib.Dec.{leb}
 use lib.ListN.{length, take}
 use lib.Ieee.{Float}
 use Rattle.loops.specs.Refusals.{unless, _or_}
-use Rattle.interpolation.specs.Samples.{countsOf}
-use Rattle.interpolation.specs.Grid.{gridTime, gridSize, finalAdded, gridStation, gridEntry, gridEntries, evenNo, gridNo, Gridded}
-use Rattle.interpolation.specs.declared.samples.Counts.{Counts}
-use Rattle.interpolation.specs.declared.samples.Sampled.{Sampled}
-use Rattle.interpolation.proofs.Samplings.{gridded}
+use Rattle.sampling.specs.Samples.{countsOf}
+use Rattle.sampling.specs.Grid.{gridTime, gridSize, finalAdded, gridStation, gridEntry, gridEntries, evenNo, gridNo, Gridded}
+use Rattle.sampling.specs.declared.samples.Counts.{Counts}
+use Rattle.sampling.specs.declared.samples.Sampled.{Sampled}
+use Rattle.sampling.proofs.Samplings.{gridded}
 use Rattle.conversions.proofs.Replies.{room-within, room-fits, Aside, written-entries, counts}
 use borrow.Author.Needs.{needs}
 use Rattle.conversions.proofs.grid.stations.Statement.{statement}

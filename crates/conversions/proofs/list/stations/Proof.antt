@@ -4,11 +4,11 @@ use mathlib.Core.List.{List}
 use lib.ListN.{length, take}
 use lib.Ieee.{Float}
 use Rattle.loops.specs.Upto.{at}
-use Rattle.interpolation.specs.Samples.{stationAt, countsOf}
-use Rattle.interpolation.specs.List.{samplesNo, listNo, Listed}
-use Rattle.interpolation.specs.declared.samples.Counts.{Counts}
-use Rattle.interpolation.specs.declared.samples.Sampled.{Sampled}
-use Rattle.interpolation.proofs.Samplings.{listed}
+use Rattle.sampling.specs.Samples.{stationAt, countsOf}
+use Rattle.sampling.specs.List.{samplesNo, listNo, Listed}
+use Rattle.sampling.specs.declared.samples.Counts.{Counts}
+use Rattle.sampling.specs.declared.samples.Sampled.{Sampled}
+use Rattle.sampling.proofs.Samplings.{listed}
 use Rattle.conversions.proofs.Replies.{room-same, room-fits, Aside, written-entries, counts}
 use borrow.Author.Needs.{needs}
 use Rattle.conversions.proofs.list.stations.Statement.{statement}

@@ -5,7 +5,7 @@ use native.Mathlib.Omega.{arith}
 use borrow.Author.Tests.{ne-eqb}
 use lib.ListN.{length}
 use lib.Ieee.{Float}
-use Rattle.interpolation.specs.Samples.{timedNo}
+use Rattle.sampling.specs.Samples.{timedNo}
 use Rattle.byte_lists.specs.Bytes.{doublesOf}
 use Rattle.byte_lists.proofs.Fronts.{length-doubles, front-is, front-count}
 use borrow.Author.Needs.{needs}

@@ -1,5 +1,6 @@
 -- `interpolation::checks::check_topp2_time_denominator` meets its contract. Assumes nothing.
 use borrow.Author.Needs.{needs}
+use Rattle.loops.proofs.Refusals.{tested, chained}
 use Rattle.interpolation.specs.Profile.{speedNo}
 use Rattle.interpolation.proofs.checks.check_topp2_time_denominator.Statement.{statement}
 use Rattle.interpolation.proofs.checks.check_topp2_time_denominator.Tie as tie
@@ -21,7 +22,9 @@ or-requires c κs = search needs
 
 returns : tie.Need-returns
 unfolding speedNo
-returns c = cc
+returns c =
+    let p = c .before .before in
+    chained 17 (c .or .ensures) (c .before .unless2 .ensures) (p .every-entry .ensures) (tested 18 (p .before .unless .ensures) (p .before .before .every-pair .ensures))
 
 pub check-topp2-time-denominator-spec : {M : Type 1} → statement M
 check-topp2-time-denominator-spec =

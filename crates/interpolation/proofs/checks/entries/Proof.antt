@@ -1,5 +1,6 @@
 -- `interpolation::checks::entries` meets its contract. Assumes nothing.
 use borrow.Author.Needs.{needs}
+use Rattle.loops.proofs.Refusals.{tested, chained}
 use Rattle.interpolation.proofs.checks.entries.Statement.{statement}
 use Rattle.interpolation.proofs.checks.entries.Tie as tie
 
@@ -28,7 +29,11 @@ or-requires-2 : tie.Need-or-requires-2
 or-requires-2 c κs = search needs
 
 returns : tie.Need-returns
-returns c = cc
+returns c =
+    let p = c .before .before in
+    let q = p .before .before .before in
+    chained 13 (c .or2 .ensures) (c .before .unless3 .ensures) (p .every-entry2 .ensures)
+    (chained 14 (p .before .or .ensures) (p .before .before .unless2 .ensures) (q .every-entry .ensures) (tested 15 (q .before .unless .ensures) (q .before .before .every-pair .ensures)))
 
 pub entries-spec : {M : Type 1} → statement M
 entries-spec =

@@ -1,0 +1,116 @@
+-- What passing every check of t to s says, and what a grid owes to its outcome.
+use Prim.Native.Nat.{ℕ, zero, suc, _+_, _-_, _≤_}
+use mathlib.Core.Path.{_≡_, refl, ap, _∙_}
+use mathlib.Core.Bool.{Bool, true, false, not, cond, _&&_}
+use mathlib.Core.List.{List}
+use native.Mathlib.Nat.{add-zero, le-refl}
+use native.Mathlib.Omega.{arith}
+use borrow.Author.Tests.{leb-true, lt-ltb, le-ltb}
+use lib.Dec.{leb, ltb}
+use lib.ListN.{length, set}
+use lib.Ieee.{Float, lt, le}
+use lib.Ieee.Scale.{finite}
+use Rattle.loops.specs.Upto.{filled, at}
+use Rattle.loops.specs.Refusals.{unless, _or_}
+use Rattle.loops.proofs.Filling.{fill-turn, fill-same, filled-at}
+use Rattle.loops.proofs.Refusals.{or-none, unless-none}
+use Rattle.interpolation.specs.Profile.{zeroF, everyEntry, everyPair}
+use Rattle.sampling.specs.Samples.{countsOf, timedNo}
+use Rattle.sampling.specs.List.{samplesNo, listNo}
+use Rattle.sampling.specs.Grid.{lastOf, gridSize, gridTime, finalAdded, evenNo, gridNo, gridStation, gridEntry, gridEntries, Gridded}
+use Rattle.sampling.specs.Parts.{oneMore, Ended}
+use Rattle.sampling.specs.declared.samples.Counts.{Counts}
+use Rattle.sampling.specs.declared.samples.Sampled.the-variants.{Done}
+use Rattle.interpolation.proofs.Outcomes.{succeeds}
+use Rattle.sampling.proofs.Walks.{timed}
+
+sampled : (x : List Float) (room : ℕ) → samplesNo x room ≡ 0 → (length x ≤ 65536) × (length x ≤ room)
+unfolding samplesNo
+sampled x room h =
+    let few = leb (length x) 65536 in
+    let short = unless (leb (length x) room) 29 in
+    let falls = unless (everyPair lt x) 27 or short in
+    let entries = unless (everyEntry finite x) 26 or falls in
+    let p = or-none (unless (ltb 0 (length x)) 25) (unless few 28 or entries) h in
+    let q = or-none (unless few 28) entries (p .1) in
+    let u = or-none (unless (everyEntry finite x) 26) falls (q .1) in
+    let v = or-none (unless (everyPair lt x) 27) short (u .1) in
+    (leb-true _ _ (unless-none few 28 (omega arith) (q .0)), leb-true _ _ (unless-none (leb (length x) room) 29 (omega arith) (v .1)))
+
+pub listed : (s a t x : List Float) (room : ℕ) → listNo s a t x room ≡ 0
+    → (length a ≡ length s) × (length t ≡ length s) × (2 ≤ length s) × (length x ≤ 65536) × (length x ≤ room)
+unfolding listNo
+listed s a t x room h =
+    let p = or-none (timedNo s a t) (samplesNo x room) h in
+    let q = timed s a t (p .0) in
+    let v = sampled x room (p .1) in
+    (q .0, q .1, q .2, v .0, v .1)
+
+sized : (t : List Float) (t0 dt : Float) (final : Bool) (room : ℕ) → evenNo t t0 dt final room ≡ 0
+    → (gridSize t t0 dt ≤ 65536) × (gridSize t t0 dt + cond final 1 0 ≤ room)
+unfolding evenNo
+sized t t0 dt final room h =
+    let n = gridSize t t0 dt in
+    let short = unless (leb (n + cond final 1 0) room) 29 in
+    let many = unless (leb n 65536) 28 or short in
+    let still = unless (not (le dt zeroF)) 24 or many in
+    let p = or-none (unless (finite t0) 16) (unless (finite dt) 23 or still) h in
+    let q = or-none (unless (finite dt) 23) still (p .1) in
+    let u = or-none (unless (not (le dt zeroF)) 24) many (q .1) in
+    let v = or-none (unless (leb n 65536) 28) short (u .1) in
+    (leb-true _ _ (unless-none (leb n 65536) 28 (omega arith) (v .0)), leb-true _ _ (unless-none (leb (n + cond final 1 0) room) 29 (omega arith) (v .1)))
+
+pub gridded : (s a t : List Float) (t0 dt : Float) (final : Bool) (room : ℕ) → gridNo s a t t0 dt final room ≡ 0
+    → (length a ≡ length s) × (length t ≡ length s) × (2 ≤ length s) × (gridSize t t0 dt ≤ 65536) × (gridSize t t0 dt + cond final 1 0 ≤ room)
+unfolding gridNo
+gridded s a t t0 dt final room h =
+    let p = or-none (timedNo s a t) (evenNo t t0 dt final room) h in
+    let q = timed s a t (p .0) in
+    let v = sized t t0 dt final room (p .1) in
+    (q .0, q .1, q .2, v .0, v .1)
+
+-- the rule for the final looks at the last entry, which the walk has written
+last-entry : (s t : List Float) (t0 : Float) (n : ℕ) (f : ℕ → Float) (old : List Float) → finalAdded s t t0 n (at (filled f n old) (n - 1)) ≡ finalAdded s t t0 n (f (n - 1))
+unfolding finalAdded
+last-entry s t t0 zero f old = refl
+last-entry s t t0 (suc n) f old = ap (finalAdded s t t0 (suc n)) (filled-at f (suc n) old (suc n - 1) (omega arith))
+
+-- room for the final is needed where it is asked for, added or not
+room : (final added : Bool) → cond (final && added) 1 0 ≤ cond final 1 0
+room false added = omega arith
+room true false = omega arith
+room true true = omega arith
+
+-- v after the first n entries, or nothing
+ended : (f : ℕ → Float) (n : ℕ) (v : Float) (b : Bool) (old : List Float) → n + cond b 1 0 ≤ length old
+    → cond b (set (filled f n old) n v) (filled f n old) ≡ filled (λ i. cond (ltb i n) (f i) v) (n + cond b 1 0) old
+ended f n v b old h = go b h
+  where
+    g : ℕ → Float
+    g i = cond (ltb i n) (f i) v
+
+    same : filled f n old ≡ filled g n old
+    same = fill-same f g n old (λ k l. rw (lt-ltb k n l))
+
+    go : (b : Bool) → n + cond b 1 0 ≤ length old → cond b (set (filled f n old) n v) (filled f n old) ≡ filled g (n + cond b 1 0) old
+    go true h = fill-turn g n old (filled f n old) v (omega arith) same (rw (le-ltb n n (le-refl n)))
+    go false h = rw add-zero same
+
+counted : (t : List Float) (x : ℕ → Float) (n : ℕ) (b : Bool) → cond b (oneMore (countsOf t x n n) 0 0 0) (countsOf t x n n) ≡ countsOf t x n (n + cond b 1 0)
+unfolding countsOf oneMore
+counted t x n true = simp add-zero
+counted t x n false = simp add-zero
+
+-- the walk's counts and entries, and the final after them
+pub finished : (s a t : List Float) (t0 dt : Float) (final : Bool) (old : List Float) (n : ℕ) (c : Counts) (mid : List Float) (r : Counts) (new : List Float)
+    → gridNo s a t t0 dt final (length old) ≡ 0 → n ≡ gridSize t t0 dt → c ≡ countsOf t (gridTime t0 dt) n n → mid ≡ filled (gridStation s a t t0 dt) n old
+    → Ended (final && finalAdded s t t0 n (at mid (n - 1))) n (lastOf s) c mid r new → Gridded s a t t0 dt final old (Done r) new
+unfolding gridEntry gridEntries
+finished s a t t0 dt final old n c mid r new z e k m d =
+    let f = gridStation s a t t0 dt in
+    let added = finalAdded s t t0 n (f (n - 1)) in
+    let l : finalAdded s t t0 n (at mid (n - 1)) ≡ added = rw m (last-entry s t t0 n f old) in
+    let fits = gridded s a t t0 dt final (length old) z in
+    let h : n + cond (final && added) 1 0 ≤ length old = omega (arith, room final added) in
+    succeeds z (ap Done ((rw (l, k) at (d .counts)) ∙ counted t (gridTime t0 dt) n (final && added) ∙ rw e refl))
+    ((rw (l, m) at (d .left)) ∙ ended f n (lastOf s) (final && added) old h ∙ rw e refl)

@@ -1,0 +1,103 @@
+-- `sampling::samples::follow` meets its contract. Assumes nothing.
+use Prim.Native.Nat.{ℕ, _≤_, _<_, _+_, _-_}
+use mathlib.Core.Path.{_≡_, refl, sym, ap, _∙_}
+use mathlib.Core.Bool.{true, not}
+use mathlib.Core.Logic.{⊎-elim}
+use native.Mathlib.Omega.{arith}
+use native.Mathlib.Nat.{eq-or-lt-of-le}
+use borrow.Author.Needs.{needs}
+use borrow.Author.Tests.{not-false}
+use lib.ListN.{length, length-set}
+use Rattle.loops.specs.Upto.{filled}
+use Rattle.loops.proofs.Filling.{fill-turn}
+use Rattle.sampling.specs.Samples.{isInside, stationAt}
+use Rattle.sampling.specs.Parts.{timeOf}
+use Rattle.sampling.proofs.Walks.{inside-within, same-interval, stays-inside, station-held, inside-more}
+use Rattle.sampling.proofs.samples.follow.Statement.{statement}
+use Rattle.sampling.proofs.samples.follow.Tie as tie
+
+abbrev Inv-loop : tie.InvT-loop
+Inv-loop s a t w source x start n out₀ j₀ out j =
+    (start ≤ j) × (j ≤ n) × (length out ≡ length out₀) × ((k : ℕ) → start ≤ k → k < j → isInside t (timeOf source x k) ≡ true) × (out ≡ filled (λ m. stationAt s a t (timeOf source x m)) j out₀)
+
+abbrev μ-loop : tie.MeasureT-loop
+μ-loop s a t w source x start n out₀ j₀ out j = n - j
+
+loop-holds : tie.Need-loop-holds Inv-loop μ-loop
+loop-holds c =
+    let p = c .before .before .before .before .before .pre in
+    (search needs, p .4, refl, λ k l g. absurd (omega arith), p .6)
+
+time-of-requires : tie.Need-time-of-requires Inv-loop μ-loop
+time-of-requires c κs = search needs
+
+stays-requires : tie.Need-stays-requires Inv-loop μ-loop
+stays-requires c κs =
+    let p = c .before .before .before .before .before .before .before .before .pre in
+    let l = inside-within _ _ (p .3) in
+    omega (arith, p .2)
+
+same-length : tie.Need-same-length Inv-loop μ-loop
+same-length c = search needs
+
+returns : tie.Need-returns Inv-loop μ-loop
+returns c =
+    let l = c .before .before .before .before .loop .inv in
+    record { onward = l .0; within = l .1; inside = l .3; left = l .4 }
+
+inside-requires : tie.Need-inside-requires Inv-loop μ-loop
+inside-requires c κs = search needs
+
+mul-out : tie.Need-mul-out Inv-loop μ-loop
+mul-out c = search needs
+
+slice-write-out : tie.Need-slice-write-out Inv-loop μ-loop
+slice-write-out c = search needs
+
+add-j : tie.Need-add-j Inv-loop μ-loop
+add-j c = search needs
+
+loop-less : tie.Need-loop-less Inv-loop μ-loop
+loop-less c = search needs
+
+loop-again : tie.Need-loop-again Inv-loop μ-loop
+loop-again c =
+    let l = c .before .before .before .before .before .loop .inv in
+    let p = c .before .before .before .before .before .before .before .before .before .before .before .pre in
+    let v = c .before .before .before .time-of .ensures in
+    let y = sym (c .before .before .stays .ensures) ∙ not-false _ (c .before .if1 .left) in
+    let i = stays-inside _ _ _ _ _ (p .1) (p .2) (p .3) y in (
+      search needs,
+      search needs,
+      simp length-set (l .2),
+      inside-more _ _ _ _ (l .3) (rw v at i),
+      fill-turn _ _ _ _ _ (omega arith) (l .4) (rw v at (c .inside .ensures ∙ station-held _ _ _ _ _ (p .0) (same-interval _ _ _ _ _ (p .1) (p .2) (p .3) y) (p .1) i)),
+    )
+
+same-length-2 : tie.Need-same-length-2 Inv-loop μ-loop
+same-length-2 c = search needs
+
+returns-2 : tie.Need-returns-2 Inv-loop μ-loop
+returns-2 c =
+    let l = c .before .loop .inv in
+    record { onward = l .0; within = l .1; inside = l .3; left = l .4 }
+
+pub follow-spec : {M : Type 1} → statement M
+follow-spec =
+    tie.close
+    (tie.spec
+    Inv-loop
+    μ-loop
+    loop-holds
+    time-of-requires
+    stays-requires
+    same-length
+    returns
+    inside-requires
+    mul-out
+    slice-write-out
+    add-j
+    loop-less
+    loop-again
+    same-length-2
+    returns-2)

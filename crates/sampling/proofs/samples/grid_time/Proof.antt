@@ -1,0 +1,15 @@
+-- `sampling::samples::grid_time` meets its contract. Assumes nothing.
+use borrow.Author.Needs.{needs}
+use Rattle.sampling.specs.Grid.{gridTime}
+use Rattle.sampling.proofs.samples.grid_time.Statement.{statement}
+use Rattle.sampling.proofs.samples.grid_time.Tie as tie
+
+nearest-u64-to-f64-requires : tie.Need-nearest-u64-to-f64-requires
+nearest-u64-to-f64-requires c κs = search needs
+
+returns : tie.Need-returns
+unfolding gridTime
+returns c = rw (c .nearest-u64-to-f64 .ensures)
+
+pub grid-time-spec : {M : Type 1} → statement M
+grid-time-spec = tie.close (tie.spec nearest-u64-to-f64-requires returns)
