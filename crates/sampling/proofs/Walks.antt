@@ -19,10 +19,16 @@ use Rattle.loops.proofs.Counting.{and-left, and-right, count-le, count-more, co
 use Rattle.loops.proofs.Refusals.{or-none, unless-none}
 use Rattle.interpolation.specs.Profile.{everyEntry, everyPair, profileNo, speedNo}
 use Rattle.sampling.specs.Samples.{intervalOf, inverse2order, stationIn, isBefore, isInside, isPast, stationAt, countsOf, timedNo}
-use Rattle.sampling.specs.Parts.{pieceAt, Standing, stays, Bounded, oneMore, moreInside, tallied}
+use Rattle.sampling.specs.Parts.{Reaches, pieceAt, Standing, stays, Bounded, oneMore, moreInside, tallied}
 use Rattle.sampling.specs.declared.interval.Walk.{Walk}
 use Rattle.sampling.specs.declared.samples.Counts.{Counts}
+use Rattle.sampling.specs.declared.samples.Source.{Source}
+use Rattle.sampling.specs.declared.samples.Source.the-variants.{Listed, Even}
 use Rattle.interpolation.proofs.Profiles.{shaped}
+
+pub reaches-less : (source : Source) (x : List Float) (n k : ℕ) → Reaches source x n → k ≤ n → Reaches source x k
+reaches-less Listed x n k h l = omega arith
+reaches-less (Even t0 dt) x n k h l = tt
 
 pub interval-le : (t : List Float) (x : Float) → intervalOf t x ≤ length t - 1
 unfolding intervalOf

@@ -20,6 +20,11 @@ abbrev pub timeOf : Source → List Float → ℕ → Float
 timeOf Listed x j = at x j
 timeOf (Even t0 dt) x j = gridTime t0 dt j
 
+-- a list of times has the first n
+abbrev pub Reaches : Source → List Float → ℕ → Type 0
+Reaches Listed x n = n ≤ length x
+Reaches (Even t0 dt) x n = Unit {0}
+
 unfoldable pub pieceAt : List Float → List Float → List Float → ℕ → Piece
 pieceAt s a t k = record { station = at s k; time = at t k; root = sqrtOf binary64 (at a k); slope = c1At s a k }
 

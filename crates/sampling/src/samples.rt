@@ -15,7 +15,7 @@ ghost use Rattle.loops.specs.Refusals.{unless, _or_};
 ghost use Rattle.interpolation.specs.Profile.{everyEntry, everyPair};
 ghost use Rattle.sampling.specs.Samples.{intervalOf, isBefore, isInside, stationAt, countsOf, timedNo};
 ghost use Rattle.sampling.specs.Grid.{gridTime};
-ghost use Rattle.sampling.specs.Parts.{timeOf, Bounded, oneMore, moreInside, tallied, Standing, stays, Followed};
+ghost use Rattle.sampling.specs.Parts.{timeOf, Reaches, Bounded, oneMore, moreInside, tallied, Standing, stays, Followed};
 
 // The times before, inside and past, and the entries written.
 pub struct Counts {
@@ -43,10 +43,11 @@ fn grid_time(t0: f64, dt: f64, i: u64) -> f64
 }
 
 fn time_of(source: Source, x: &[f64], j: usize) -> f64
+    requires { ⌜ Reaches source (now x) (j + 1) ⌝ }
     ensures { λ r. ⌜ r ≡ timeOf source (now (x .entry)) j ⌝ }
 {
     match source {
-        Source::Listed => if j < x.len() { x[j] } else { 0.0 / 0.0 },
+        Source::Listed => x[j],
         Source::Even(t0, dt) => grid_time(t0, dt, j as u64),
     }
 }
@@ -151,7 +152,7 @@ fn follow(
     n: usize,
     out: &mut [f64],
 ) -> usize
-    requires { ⌜ (length (now t) ≡ length (now s)) × Standing (now s) (now a) (now t) w × (w .interval ≡ intervalOf (now t) (w .time)) × (isInside (now t) (w .time) ≡ true) × (start ≤ n) × (n ≤ length (now out))
+    requires { ⌜ (length (now t) ≡ length (now s)) × Standing (now s) (now a) (now t) w × (w .interval ≡ intervalOf (now t) (w .time)) × (isInside (now t) (w .time) ≡ true) × (start ≤ n) × (n ≤ length (now out)) × Reaches source (now x) n
         × (now out ≡ filled (λ j. stationAt (now s) (now a) (now t) (timeOf source (now x) j)) start (now out)) ⌝ }
     ensures { λ r. ⌜ Followed (now (t .entry)) (timeOf source (now (x .entry))) (λ j. stationAt (now (s .entry)) (now (a .entry)) (now (t .entry)) (timeOf source (now (x .entry)) j)) start n r (now (out .entry)) (now (out .exit)) ⌝ }
 {
@@ -179,7 +180,7 @@ fn followers(
     n: usize,
     out: &mut [f64],
 ) -> usize
-    requires { ⌜ (length (now t) ≡ length (now s)) × (1 ≤ length (now t)) × Standing (now s) (now a) (now t) w × (w .interval ≡ intervalOf (now t) (w .time)) × (start ≤ n) × (n ≤ length (now out))
+    requires { ⌜ (length (now t) ≡ length (now s)) × (1 ≤ length (now t)) × Standing (now s) (now a) (now t) w × (w .interval ≡ intervalOf (now t) (w .time)) × (start ≤ n) × (n ≤ length (now out)) × Reaches source (now x) n
         × (now out ≡ filled (λ j. stationAt (now s) (now a) (now t) (timeOf source (now x) j)) start (now out)) ⌝ }
     ensures { λ r. ⌜ Followed (now (t .entry)) (timeOf source (now (x .entry))) (λ j. stationAt (now (s .entry)) (now (a .entry)) (now (t .entry)) (timeOf source (now (x .entry)) j)) start n r (now (out .entry)) (now (out .exit)) ⌝ }
 {
@@ -199,7 +200,7 @@ pub(crate) fn t_to_s_topp2_core(
     n: usize,
     out: &mut [f64],
 ) -> Counts
-    requires { ⌜ (length (now a) ≡ length (now s)) × (length (now t) ≡ length (now s)) × (2 ≤ length (now s)) × (n ≤ 65536) × (n ≤ length (now out)) ⌝ }
+    requires { ⌜ (length (now a) ≡ length (now s)) × (length (now t) ≡ length (now s)) × (2 ≤ length (now s)) × (n ≤ 65536) × (n ≤ length (now out)) × Reaches source (now x) n ⌝ }
     ensures { λ r. ⌜ (r ≡ countsOf (now (t .entry)) (timeOf source (now (x .entry))) n n)
         × (now (out .exit) ≡ filled (λ j. stationAt (now (s .entry)) (now (a .entry)) (now (t .entry)) (timeOf source (now (x .entry)) j)) n (now (out .entry))) ⌝ }
 {

@@ -21,7 +21,7 @@ t-to-s-topp2-core-requires : tie.Need-t-to-s-topp2-core-requires
 t-to-s-topp2-core-requires c κs =
     let z = gridded _ _ _ _ _ _ _ (sym (c .before .before .before .refusal .ensures) ∙ c .before .before .if1 .taken) in
     let e = c .before .size .ensures in
-    (z .0, z .1, z .2, omega arith, omega arith)
+    (z .0, z .1, z .2, omega arith, omega arith, tt)
 
 finish-requires : tie.Need-finish-requires
 finish-requires c κs =

@@ -1,5 +1,6 @@
 -- `sampling::list::t_to_s_topp2_list` meets its contract. Assumes nothing.
 use mathlib.Core.Path.{sym, ap, _∙_}
+use native.Mathlib.Omega.{arith}
 use borrow.Author.Needs.{needs}
 use Rattle.sampling.specs.declared.samples.Sampled.the-variants.{Done}
 use Rattle.interpolation.proofs.Outcomes.{refuses, succeeds}
@@ -11,7 +12,9 @@ refusal-requires : tie.Need-refusal-requires
 refusal-requires c κs = search needs
 
 t-to-s-topp2-core-requires : tie.Need-t-to-s-topp2-core-requires
-t-to-s-topp2-core-requires c κs = listed _ _ _ _ _ (sym (c .before .before .refusal .ensures) ∙ c .before .if1 .taken)
+t-to-s-topp2-core-requires c κs =
+    let z = listed _ _ _ _ _ (sym (c .before .before .refusal .ensures) ∙ c .before .if1 .taken) in
+    (z .0, z .1, z .2, z .3, z .4, omega arith)
 
 same-length : tie.Need-same-length
 same-length c = search needs

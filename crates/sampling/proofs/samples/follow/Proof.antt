@@ -12,7 +12,7 @@ use Rattle.loops.specs.Upto.{filled}
 use Rattle.loops.proofs.Filling.{fill-turn}
 use Rattle.sampling.specs.Samples.{isInside, stationAt}
 use Rattle.sampling.specs.Parts.{timeOf}
-use Rattle.sampling.proofs.Walks.{inside-within, same-interval, stays-inside, station-held, inside-more}
+use Rattle.sampling.proofs.Walks.{reaches-less, inside-within, same-interval, stays-inside, station-held, inside-more}
 use Rattle.sampling.proofs.samples.follow.Statement.{statement}
 use Rattle.sampling.proofs.samples.follow.Tie as tie
 
@@ -26,10 +26,12 @@ abbrev μ-loop : tie.MeasureT-loop
 loop-holds : tie.Need-loop-holds Inv-loop μ-loop
 loop-holds c =
     let p = c .before .before .before .before .before .pre in
-    (search needs, p .4, refl, λ k l g. absurd (omega arith), p .6)
+    (search needs, p .4, refl, λ k l g. absurd (omega arith), p .7)
 
 time-of-requires : tie.Need-time-of-requires Inv-loop μ-loop
-time-of-requires c κs = search needs
+time-of-requires c κs =
+    let s = c .before .before .before .before .before .before .before in
+    reaches-less (s .args .source) (s .args .x .now) (s .args .n) (c .before .loop .j + 1) (s .pre .6) (omega arith)
 
 stays-requires : tie.Need-stays-requires Inv-loop μ-loop
 stays-requires c κs =

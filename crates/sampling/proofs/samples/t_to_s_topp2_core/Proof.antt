@@ -1,5 +1,5 @@
 -- `sampling::samples::t_to_s_topp2_core` meets its contract. Assumes nothing.
-use Prim.Native.Nat.{_≤_, _-_}
+use Prim.Native.Nat.{_+_, _≤_, _-_}
 use mathlib.Core.Path.{_≡_, refl, sym, ap, _∙_}
 use native.Mathlib.Omega.{arith}
 use borrow.Author.Needs.{needs}
@@ -8,7 +8,7 @@ use Rattle.loops.specs.Upto.{filled, at}
 use Rattle.loops.proofs.Filling.{length-filled, fill-none, fill-turn, fill-on, fill-stands}
 use Rattle.sampling.specs.Samples.{stationAt, countsOf}
 use Rattle.sampling.specs.Parts.{timeOf, Standing}
-use Rattle.sampling.proofs.Walks.{counts-none, counts-turn, counts-up-to, counts-written, counts-bounded}
+use Rattle.sampling.proofs.Walks.{reaches-less, counts-none, counts-turn, counts-up-to, counts-written, counts-bounded}
 use Rattle.sampling.proofs.samples.t_to_s_topp2_core.Statement.{statement}
 use Rattle.sampling.proofs.samples.t_to_s_topp2_core.Tie as tie
 
@@ -29,7 +29,9 @@ loop-holds c =
     (search needs, p .3, p .4, record { within = search needs; behind = λ i l. absurd (omega arith); held = λ l. c .piece-at .ensures }, counts-none _ _, refl, sym (fill-none _ _))
 
 time-of-requires : tie.Need-time-of-requires Inv-loop μ-loop
-time-of-requires c κs = search needs
+time-of-requires c κs =
+    let s = c .before .before .before .before .before .before .before .before in
+    reaches-less (s .args .source) (s .args .x .now) (s .args .n) (c .before .loop .j + 1) (s .pre .5) (omega arith)
 
 advance-requires : tie.Need-advance-requires Inv-loop μ-loop
 advance-requires c κs = (search needs, search needs, c .before .before .loop .inv .3)
@@ -58,7 +60,7 @@ followers-requires c κs =
     let v = c .before .before .before .before .time-of .ensures in
     let e = fill-turn _ _ _ _ _ (omega arith) (l .6) (rw v at (c .before .before .station .ensures)) in
     let p = c .before .before .before .before .before .before .before .before .before .before .before .before .before .pre in
-    (p .1, omega (arith, p .1, p .2), w .2, rw (w .1) (w .0), search needs, simp length-set (l .2), fill-stands _ _ _ _ e)
+    (p .1, omega (arith, p .1, p .2), w .2, rw (w .1) (w .0), search needs, simp length-set (l .2), p .5, fill-stands _ _ _ _ e)
 
 add-more-inside : tie.Need-add-more-inside Inv-loop μ-loop
 add-more-inside c = search needs

@@ -1,7 +1,5 @@
 -- `sampling::samples::time_of` meets its contract. Assumes nothing.
 use borrow.Author.Needs.{needs}
-use lib.Ieee.{nan, ofBits, div}
-use lib.ListN.{List·getD-eq-default}
 use Rattle.sampling.proofs.samples.time_of.Statement.{statement}
 use Rattle.sampling.proofs.samples.time_of.Tie as tie
 
@@ -9,10 +7,14 @@ enum-told : tie.Need-enum-told
 enum-told c = search needs
 
 mul-result : tie.Need-mul-result
-mul-result c = search needs
+mul-result c =
+    let l = rw (c .enum-told .given .1) at (c .before .before .before .pre) in
+    search (needs, l)
 
 shared-slice-read-result : tie.Need-shared-slice-read-result
-shared-slice-read-result c = search needs
+shared-slice-read-result c =
+    let l = rw (c .before .enum-told .given .1) at (c .before .before .before .before .pre) in
+    search (needs, l)
 
 enum-known-source : tie.Need-enum-known-source
 enum-known-source c = search needs
@@ -21,14 +23,10 @@ grid-time-requires : tie.Need-grid-time-requires
 grid-time-requires c κs = search needs
 
 returns : tie.Need-returns
-returns c = rw (c .before .before .enum-told .given .1)
+returns c = rw (c .before .enum-told .given .1)
 
 returns-2 : tie.Need-returns-2
-unfolding ofBits div
-returns-2 c = rw (c .before .enum-told .given .1, List·getD-eq-default _ nan (c .if1 .left))
-
-returns-3 : tie.Need-returns-3
-returns-3 c = rw (c .before .before .source .given .1) (c .grid-time .ensures)
+returns-2 c = rw (c .before .before .source .given .1) (c .grid-time .ensures)
 
 pub time-of-spec : {M : Type 1} → statement M
 time-of-spec =
@@ -40,5 +38,4 @@ time-of-spec =
     enum-known-source
     grid-time-requires
     returns
-    returns-2
-    returns-3)
+    returns-2)
