@@ -1,4 +1,4 @@
--- The operands: what a pattern's sign and magnitude stand for, which patterns are special, what the code of `special`, `normal` and `fields` finds, and how three patterns that are not special fill
+-- The operands: what a pattern's sign and magnitude stand for, which patterns are special, what the code of `special` and `normal` finds, and how three patterns that are not special fill
 -- their windows. Assumes nothing.
 use mathlib.Core.Path.{_≡_, refl, sym, ap, ap₂, _∙_, subst}
 use mathlib.Core.Logic.{_⊎_, inl, inr}
@@ -8,7 +8,7 @@ use native.Mathlib.Omega.{arith}
 use mathlib.Core.Bool.{Bool, true, false, not, _&&_, cond, and-false, false≢true}
 use borrow.Author.Tests.{lt-ltb, le-ltb, le-leb, lt-leb, ne-eqb, ltb-true, leb-true}
 use lib.Dec.{T, leb, ltb, eqb, ltb→lt, nltb→le, leb→le, nleb→lt, lit<}
-use lib.Pow.{pow-add, pow-pos, field, mod-mod-pow}
+use lib.Pow.{pow-add, pow-pos, field}
 use lib.Ieee.{Float, nan, inf, fin, binary64, up, down, unlike, sum, ofBits}
 use lib.Ieee.Fits.{up-pos, down-pos}
 use lib.Ieee.Exact.{HasValue}
@@ -125,13 +125,9 @@ module _ (b : ℕ) (B : b < 2 ^ 64) where
           at true a c = let h = small p w g (a tt) in sym (ap₂ _&&_ (le-leb (2 ^ 52) p (h .0)) (lt-ltb p infinite (h .1)))
           at false a c = sym (ap (λ (q : Bool). leb (2 ^ 52) p && q) (le-ltb p infinite (large p w g (c tt))) ∙ and-false (leb (2 ^ 52) p))
 
-  -- the code of `fields`
-  pub code-fields : isNormal b ≡ true → Unpacked b (b % 2 ^ 52 + 2 ^ 52) (b / 2 ^ 52 % 2048 + 52)
-  code-fields e =
-      let h = normal-in e in (
-        ap (λ (z : ℕ). z + 2 ^ 52) (sym (mod-mod-pow b 11 52)) ∙ code-field (magnitude b) (h .0),
-        ap (λ (z : ℕ). z + 52) (sym (field b 11 52)) ∙ code-exponent (magnitude b) (h .0),
-      )
+  -- what `fields` finds in a normal value's magnitude
+  pub code-fields : isNormal b ≡ true → (m k : ℕ) → (m ≡ magnitude b % 2 ^ 52 + 2 ^ 52) × (k ≡ magnitude b / 2 ^ 52 + 52) → Unpacked b m k
+  code-fields e m k (f, g) = let h = normal-in e in (f ∙ code-field (magnitude b) (h .0), g ∙ code-exponent (magnitude b) (h .0))
 
   -- ---- a pattern that is not special: m * 2 ^ k / 2 ^ 1127, the leading digit of m at bit 52
   module _ (S : isSpecial (ofBits binary64 b) ≡ false) where

@@ -1,5 +1,6 @@
 // Three patterns taken apart: which of them have a leading digit, and their significands with that digit at bit 52.
 use rounding::packing::Parts;
+use rounding::packing::fields;
 use rounding::packing::unpacked;
 ghost use mathlib.Core.Path.{_≡_};
 ghost use mathlib.Core.Bool.{_&&_, true};
@@ -42,17 +43,6 @@ pub(crate) fn all_normal(a: u64, b: u64, c: u64) -> bool
     false
 }
 
-// The parts of a normal value's pattern, as `unpacked` finds them, with the sign still in it.
-fn fields(b: u64) -> Parts
-    requires { ⌜ isNormal b ≡ true ⌝ }
-    ensures { λ r. ⌜ Unpacked b (r .m) (r .k) ⌝ }
-{
-    Parts {
-        m: b % 0x10_0000_0000_0000 + 0x10_0000_0000_0000,
-        k: (b >> 52) % 2048 + 52,
-    }
-}
-
 // The parts of three patterns. Most often all are normal, and no more than that is tested. Else each is unpacked by itself, where the count of leading
 // zero bits brings a subnormal's leading digit up.
 pub(crate) fn split(a: u64, b: u64, c: u64) -> Triple
@@ -60,9 +50,9 @@ pub(crate) fn split(a: u64, b: u64, c: u64) -> Triple
 {
     if all_normal(a, b, c) {
         return Triple {
-            x: fields(a),
-            y: fields(b),
-            z: fields(c),
+            x: fields(a % 0x8000_0000_0000_0000),
+            y: fields(b % 0x8000_0000_0000_0000),
+            z: fields(c % 0x8000_0000_0000_0000),
         };
     }
     Triple {

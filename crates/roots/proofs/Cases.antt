@@ -3,7 +3,7 @@ use mathlib.Core.Path.{_≡_, refl, sym, ap, ap₂, _∙_}
 use Prim.Native.Nat.{ℕ, zero, suc, _*_, _%_, _^_, _≤_, _<_}
 use native.Mathlib.Nat.{add-comm}
 use native.Mathlib.Omega.{arith}
-use mathlib.Core.Bool.{Bool, true, false, not}
+use mathlib.Core.Bool.{Bool, true, false, not, cond}
 use lib.Dec.{T, ltb, ltb→lt, nltb→le}
 use lib.Pow.{pow-pos}
 use lib.Ieee.{Float, nan, inf, fin, Format, binary64, div, fits, ofBits, toBits, size, round}
@@ -56,11 +56,24 @@ without-sign (fin s m e) F =
     unsigned zero F = unfold fits in F
     unsigned (suc m) F = unfold fits in F
 
-pub code-ordered : (x y : Float) → T (fits binary64 x) → T (fits binary64 y) → hypotOf binary64 (ofBits binary64 (toBits binary64 x % 2 ^ 63)) (ofBits binary64 (toBits binary64 y % 2 ^ 63)) ≡ hypotOf binary64 x y
-code-ordered x y F G = ap₂ (hypotOf binary64) (without-sign x F) (without-sign y G) ∙ of-absolutes binary64 x y
+pub code-unsigned : (x y : Float) → T (fits binary64 x) → T (fits binary64 y) → hypotOf binary64 (ofBits binary64 (toBits binary64 x % 2 ^ 63)) (ofBits binary64 (toBits binary64 y % 2 ^ 63)) ≡ hypotOf binary64 x y
+code-unsigned x y F G = ap₂ (hypotOf binary64) (without-sign x F) (without-sign y G) ∙ of-absolutes binary64 x y
 
-pub code-swapped : (x y : Float) → T (fits binary64 x) → T (fits binary64 y) → hypotOf binary64 (ofBits binary64 (toBits binary64 y % 2 ^ 63)) (ofBits binary64 (toBits binary64 x % 2 ^ 63)) ≡ hypotOf binary64 x y
-code-swapped x y F G = code-ordered y x G F ∙ swap binary64 y x
+-- the larger pattern g and the smaller l of two
+module _ (a b g l : ℕ) (e : (g ≡ cond (ltb a b) b a) × (l ≡ cond (ltb a b) a b)) where
+  pub sorted-in : a < 2 ^ 63 → b < 2 ^ 63 → (l ≤ g) × (g < 2 ^ 63)
+  sorted-in A B = go (ltb a b) (ltb→lt a b) (nltb→le a b) (e .0) (e .1)
+    where
+      go : (t : Bool) → (T t → a < b) → (T (not t) → b ≤ a) → g ≡ cond t b a → l ≡ cond t a b → (l ≤ g) × (g < 2 ^ 63)
+      go true x y h i = let u = x tt in (omega arith, omega arith)
+      go false x y h i = let u = y tt in (omega arith, omega arith)
+
+  pub code-sorted : hypotOf binary64 (ofBits binary64 g) (ofBits binary64 l) ≡ hypotOf binary64 (ofBits binary64 a) (ofBits binary64 b)
+  code-sorted = ap₂ (λ (x y : ℕ). hypotOf binary64 (ofBits binary64 x) (ofBits binary64 y)) (e .0) (e .1) ∙ go (ltb a b)
+    where
+      go : (t : Bool) → hypotOf binary64 (ofBits binary64 (cond t b a)) (ofBits binary64 (cond t a b)) ≡ hypotOf binary64 (ofBits binary64 a) (ofBits binary64 b)
+      go true = swap binary64 (ofBits binary64 b) (ofBits binary64 a)
+      go false = refl
 
 -- ---- an infinite part, then a NaN
 pub code-infinite : (a b : ℕ) → a ≡ 0x7ff0_0000_0000_0000 → ofBits binary64 0x7ff0_0000_0000_0000 ≡ hypotOf binary64 (ofBits binary64 a) (ofBits binary64 b)

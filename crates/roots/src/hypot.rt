@@ -1,7 +1,10 @@
 // Document 01's hypot.
 ghost use mathlib.Core.Path.{_≡_};
 ghost use Prim.Native.Nat.{_+_, _*_, _/_, _%_, _^_, _<_, _≤_};
+ghost use mathlib.Core.Bool.{cond};
+ghost use lib.Dec.{ltb};
 ghost use lib.Ieee.{binary64, ofBits};
+ghost use Rattle.rounding.specs.Packing.{significand, exponent};
 ghost use Rattle.roots.specs.CutRoot.{stickMore};
 ghost use Rattle.roots.specs.Hypot.{hypotOf};
 use crate::floor_root;
@@ -9,6 +12,7 @@ use limbs::wide;
 use limbs::wide::Wide;
 use number::pattern;
 use rounding::packing;
+use rounding::packing::Parts;
 
 // A number shifted down, and the digits that it lost.
 struct Shifted {
@@ -45,6 +49,29 @@ fn sum_root(x: u64, y: u64, s: u64) -> u64
     )
 }
 
+// The parts of two magnitudes.
+struct Pair {
+    p: Parts,
+    q: Parts,
+}
+
+// From the larger pattern and the smaller. Most often the smaller is a normal value's, and then no other test is made.
+fn split(a: u64, b: u64) -> Pair
+    requires { ⌜ b ≤ a ⌝ }
+    ensures { λ r. ⌜ (r .p .m ≡ significand a) × (r .p .k ≡ exponent a) × (r .q .m ≡ significand b) × (r .q .k ≡ exponent b) ⌝ }
+{
+    if b < 0x10_0000_0000_0000 {
+        return Pair {
+            p: packing::unpacked(a),
+            q: packing::unpacked(b),
+        };
+    }
+    Pair {
+        p: packing::fields(a),
+        q: packing::fields(b),
+    }
+}
+
 // From two finite patterns without a sign, the larger first. Where the smaller begins 27 digits lower, it adds less than half of the
 // larger's last digit.
 fn finite_length(a: u64, b: u64) -> f64
@@ -54,13 +81,16 @@ fn finite_length(a: u64, b: u64) -> f64
     if a == 0 {
         return 0.0;
     }
-    let p = packing::unpacked(a);
-    let q = packing::unpacked(b);
-    let d = p.k - q.k;
+    let both = split(a, b);
+    let d = both.p.k - both.q.k;
     if d > 26 {
         return f64::from_bits(a);
     }
-    packing::rounded(false, sum_root(p.m * 4, q.m * 4, d * 2), p.k + 1270)
+    packing::rounded(
+        false,
+        sum_root(both.p.m * 4, both.q.m * 4, d * 2),
+        both.p.k + 1270,
+    )
 }
 
 // From two patterns without a sign, the larger first: a NaN's is above an infinity's.
@@ -80,14 +110,34 @@ fn ordered(a: u64, b: u64) -> f64
     0.0 / 0.0
 }
 
+// Two patterns in order.
+struct Sorted {
+    larger: u64,
+    smaller: u64,
+}
+
+fn in_order(a: u64, b: u64) -> Sorted
+    ensures { λ r. ⌜ (r .larger ≡ cond (ltb a b) b a) × (r .smaller ≡ cond (ltb a b) a b) ⌝ }
+{
+    if a < b {
+        return Sorted {
+            larger: b,
+            smaller: a,
+        };
+    }
+    Sorted {
+        larger: a,
+        smaller: b,
+    }
+}
+
 // "An infinite part gives plus infinity; else a NaN part gives NaN; else nearest to the root of x² + y²."
 pub fn hypot(x: f64, y: f64) -> f64
     ensures { λ r. ⌜ r ≡ hypotOf binary64 x y ⌝ }
 {
-    let a = pattern::pattern_of(x) % 0x8000_0000_0000_0000;
-    let b = pattern::pattern_of(y) % 0x8000_0000_0000_0000;
-    if a < b {
-        return ordered(b, a);
-    }
-    ordered(a, b)
+    let s = in_order(
+        pattern::pattern_of(x) % 0x8000_0000_0000_0000,
+        pattern::pattern_of(y) % 0x8000_0000_0000_0000,
+    );
+    ordered(s.larger, s.smaller)
 }

@@ -4,10 +4,8 @@ use Prim.Native.Nat.{ℕ, zero, suc, _+_, _-_, _*_, _/_, _%_, _^_, _≤_, _<_, c
 use mathlib.Core.Logic.{⊎-elim}
 use native.Mathlib.Nat.{eq-or-lt-of-le, lt-of-le-of-lt, lt-of-lt-of-le, div-mul-le-self, mod-eq-of-lt, mod-eq-sub-div-mul, div-eq-of-lt, mod-lt, add-zero, one-mul}
 use native.Mathlib.Omega.{arith}
-use lib.Arith.{digits-div}
 use lib.Pow.{pow-pos, pow-mono, pow-lt, shr-lt}
 use lib.Ieee.{nearest}
-use lib.Ieee.Fits.{nearest-le}
 use lib.Ieee.Nearest.{closest}
 use Rattle.rounding.proofs.Compare.{Cmp, cmp, cmp-lt, cmp-eq, cmp-gt}
 use Rattle.rounding.proofs.Powers.{half-pow}
@@ -51,29 +49,23 @@ whole-down w h g = ⊎-elim
 pub quot-small : (w sh : ℕ) → w < 2 ^ 64 → 0 < sh → w / 2 ^ sh < 2 ^ 63
 quot-small w sh h p = shr-lt 63 sh (lt-of-lt-of-le h (pow-mono {i = 64} {j = 63 + sh} (omega arith)))
 
--- ---- half a step less one is added before the cut, and the missing one where the quotient is odd
-module _ (w b h : ℕ) (e : b ≡ 2 * h) (H : 0 < h) where
-  cut-once : (x : ℕ) → b ≤ x → x < 2 * b → x / b ≡ 1
-  cut-once x g l = ap (λ (y : ℕ). y / b) (omega arith) ∙ digits-div 1 {m = b} {r = x - b} (omega arith)
-
-  tie : (v : ℕ) → v < 2 → (h + h - 1 + v) / b ≡ v
-  tie zero l = div-eq-of-lt (omega arith)
-  tie (suc zero) l = cut-once (h + h - 1 + 1) (omega arith) (omega arith)
-  tie (suc (suc v)) l = absurd (omega arith)
-
-  pub near-cut : w / b + (w % b + h - 1 + w / b % 2) / b ≡ closest w b
-  near-cut = go (compare (w % b) h) (cmp (w % b) h)
+-- ---- an odd quotient counts for one more than the rest: then the half goes up, and every rest above it
+module _ (w b h : ℕ) (e : b ≡ 2 * h) where
+  near-up : h < w % b + w / b % 2 → w / b + 1 ≡ closest w b
+  near-up g = go (compare (w % b) h) (cmp (w % b) h)
     where
-      q : ℕ
-      q = w / b
+      go : (o : Ordering) → Cmp o (w % b) h → w / b + 1 ≡ closest w b
+      go Ordering·lt l = absurd (omega arith)
+      go Ordering·eq l = let v : w / b % 2 ≡ 1 = omega arith in ap (λ (x : ℕ). w / b + x) (sym v) ∙ near-eq w b h e l
+      go Ordering·gt l = near-gt w b h e l
 
-      r-lt : w % b < b
-      r-lt = mod-lt w (omega arith)
-
-      go : (o : Ordering) → Cmp o (w % b) h → q + (w % b + h - 1 + q % 2) / b ≡ closest w b
-      go Ordering·lt l = ap (λ (x : ℕ). q + x) (div-eq-of-lt (omega arith)) ∙ add-zero q ∙ near-lt w b h e l
-      go Ordering·eq l = ap (λ (x : ℕ). q + x) (ap (λ (x : ℕ). (x + h - 1 + q % 2) / b) l ∙ tie (q % 2) (omega arith)) ∙ near-eq w b h e l
-      go Ordering·gt l = let R = r-lt in ap (λ (x : ℕ). q + x) (cut-once (w % b + h - 1 + q % 2) (omega arith) (omega arith)) ∙ near-gt w b h e l
+  near-stay : w % b + w / b % 2 ≤ h → w / b ≡ closest w b
+  near-stay g = go (compare (w % b) h) (cmp (w % b) h)
+    where
+      go : (o : Ordering) → Cmp o (w % b) h → w / b ≡ closest w b
+      go Ordering·lt l = near-lt w b h e l
+      go Ordering·eq l = let v : w / b % 2 ≡ 0 = omega arith in sym (add-zero (w / b)) ∙ ap (λ (x : ℕ). w / b + x) (sym v) ∙ near-eq w b h e l
+      go Ordering·gt l = absurd (omega arith)
 
 -- ---- the code of `near`: its remainder and its half, taken in 64 bits
 module _ (w sh : ℕ) (W : w < 2 ^ 64) (lo : 0 < sh) (hi : sh < 64) where
@@ -83,17 +75,14 @@ module _ (w sh : ℕ) (W : w < 2 ^ 64) (lo : 0 < sh) (hi : sh < 64) where
   half : 1 * 2 ^ (sh - 1) % 2 ^ 64 ≡ 2 ^ (sh - 1)
   half = one-is (sh - 1) 64 (omega arith)
 
-  -- the sum before the cut: at least one, and in 64 bits
-  pub code-sum : (0 < 1 * 2 ^ (sh - 1) % 2 ^ 64) × (w - w / 2 ^ sh * 2 ^ sh % 2 ^ 64 + 1 * 2 ^ (sh - 1) % 2 ^ 64 < 2 ^ 64)
-  code-sum =
-      let e = half-pow sh lo in
+  pub code-fits : w - w / 2 ^ sh * 2 ^ sh % 2 ^ 64 + w / 2 ^ sh % 2 < 2 ^ 64
+  code-fits =
       let r : w % 2 ^ sh < 2 ^ sh = mod-lt w (pow-pos sh) in
-      let p = pow-pos (sh - 1) in
       let m : 2 ^ sh ≤ 2 ^ 63 = pow-mono {i = sh} {j = 63} (omega arith) in
-      rw (rest, half) (p, omega arith)
+      rw rest (omega arith)
 
-  pub code-near : w / 2 ^ sh + (w - w / 2 ^ sh * 2 ^ sh % 2 ^ 64 + 1 * 2 ^ (sh - 1) % 2 ^ 64 - 1 + w / 2 ^ sh % 2) / 2 ^ sh ≡ closest w (2 ^ sh)
-  code-near = rw (rest, half) (near-cut w (2 ^ sh) (2 ^ (sh - 1)) (half-pow sh lo) (pow-pos (sh - 1)))
+  pub code-up : 1 * 2 ^ (sh - 1) % 2 ^ 64 < w - w / 2 ^ sh * 2 ^ sh % 2 ^ 64 + w / 2 ^ sh % 2 → w / 2 ^ sh + 1 ≡ closest w (2 ^ sh)
+  code-up = rw (rest, half) (near-up w (2 ^ sh) (2 ^ (sh - 1)) (half-pow sh lo))
 
-  pub code-fits : w / 2 ^ sh + (w - w / 2 ^ sh * 2 ^ sh % 2 ^ 64 + 1 * 2 ^ (sh - 1) % 2 ^ 64 - 1 + w / 2 ^ sh % 2) / 2 ^ sh < 2 ^ 64
-  code-fits = rw code-near (lt-of-le-of-lt (nearest-le (w / 2 ^ sh) (compare (w % 2 ^ sh * 2) (2 ^ sh))) (omega (arith, quot-small w sh W lo)))
+  pub code-stay : w - w / 2 ^ sh * 2 ^ sh % 2 ^ 64 + w / 2 ^ sh % 2 ≤ 1 * 2 ^ (sh - 1) % 2 ^ 64 → w / 2 ^ sh ≡ closest w (2 ^ sh)
+  code-stay = rw (rest, half) (near-stay w (2 ^ sh) (2 ^ (sh - 1)) (half-pow sh lo))

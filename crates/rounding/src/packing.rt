@@ -1,6 +1,6 @@
 // A double from a significand and an exponent, and back. No other place makes a double of a significand.
 ghost use mathlib.Core.Path.{_≡_};
-ghost use Prim.Native.Nat.{_+_, _*_, _^_, _<_, _≤_};
+ghost use Prim.Native.Nat.{_+_, _*_, _/_, _%_, _^_, _<_, _≤_};
 ghost use mathlib.Core.Bool.{cond};
 ghost use lib.Ieee.{binary64, round, ofBits};
 ghost use lib.Ieee.Nearest.{closest};
@@ -12,7 +12,17 @@ pub struct Parts {
     pub k: u64,
 }
 
-// The parts of a magnitude's pattern.
+// The parts of a normal magnitude's pattern.
+pub fn fields(b: u64) -> Parts
+    ensures { λ r. ⌜ (r .m ≡ b % 2 ^ 52 + 2 ^ 52) × (r .k ≡ b / 2 ^ 52 + 52) ⌝ }
+{
+    Parts {
+        m: b % 0x10_0000_0000_0000 + 0x10_0000_0000_0000,
+        k: (b >> 52) + 52,
+    }
+}
+
+// The parts of any magnitude's pattern.
 pub fn unpacked(b: u64) -> Parts
     ensures { λ r. ⌜ (r .m ≡ significand b) × (r .k ≡ exponent b) ⌝ }
 {
@@ -23,13 +33,10 @@ pub fn unpacked(b: u64) -> Parts
             k: 53 - lift,
         };
     }
-    Parts {
-        m: b % 0x10_0000_0000_0000 + 0x10_0000_0000_0000,
-        k: (b >> 52) + 52,
-    }
+    fields(b)
 }
 
-// w / 2^sh, to the nearest whole number, ties to even. Up to half a step may be added before the cut, and at a tie only to an odd quotient.
+// w / 2^sh, to the nearest whole number, ties to even: up where the rest is above half a step, and at half a step from an odd quotient.
 fn near(w: u64, sh: u64) -> u64
     requires { ⌜ 0 < sh ⌝ }
     ensures { λ r. ⌜ r ≡ closest w (2 ^ sh) ⌝ }
@@ -45,7 +52,10 @@ fn near(w: u64, sh: u64) -> u64
     }
     let q = w >> sh;
     let r = w - (q << sh);
-    q + ((r + (1u64 << (sh - 1)) - 1 + q % 2) >> sh)
+    if r + q % 2 > 1u64 << (sh - 1) {
+        return q + 1;
+    }
+    q
 }
 
 // A sign and a magnitude's pattern, which is at most an infinity's.

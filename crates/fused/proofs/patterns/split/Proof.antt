@@ -1,6 +1,6 @@
 use mathlib.Core.Path.{sym, _∙_}
 use Rattle.fused.specs.Steps.{isNormal}
-use Rattle.fused.proofs.Operands.{all-true}
+use Rattle.fused.proofs.Operands.{all-true, code-fields}
 use borrow.Author.Needs.{needs}
 use Rattle.fused.proofs.patterns.split.Statement.{statement}
 use Rattle.fused.proofs.patterns.split.Tie as tie
@@ -9,22 +9,26 @@ all-normal-requires : tie.Need-all-normal-requires
 all-normal-requires c κs = search needs
 
 fields-requires : tie.Need-fields-requires
-fields-requires c κs =
-    let a = c .before .before .args in
-    all-true (isNormal (a .a)) (isNormal (a .b)) (isNormal (a .c)) (sym (c .before .all-normal .ensures) ∙ c .if1 .taken) .0
+fields-requires c κs = search needs
 
 fields-requires-2 : tie.Need-fields-requires-2
-fields-requires-2 c κs =
-    let a = c .before .before .before .args in
-    all-true (isNormal (a .a)) (isNormal (a .b)) (isNormal (a .c)) (sym (c .before .before .all-normal .ensures) ∙ c .before .if1 .taken) .1
+fields-requires-2 c κs = search needs
 
 fields-requires-3 : tie.Need-fields-requires-3
-fields-requires-3 c κs =
-    let a = c .before .before .before .before .args in
-    all-true (isNormal (a .a)) (isNormal (a .b)) (isNormal (a .c)) (sym (c .before .before .before .all-normal .ensures) ∙ c .before .before .if1 .taken) .2
+fields-requires-3 c κs = search needs
 
 returns : tie.Need-returns
-returns c = search needs
+returns c =
+    let x = c .before .before .fields in
+    let y = c .before .fields2 in
+    let z = c .fields3 in
+    let u = c .before .before .before in
+    let s = u .before .before in
+    let n = all-true (isNormal (s .args .a)) (isNormal (s .args .b)) (isNormal (s .args .c)) (sym (u .before .all-normal .ensures) ∙ u .if1 .taken) in (
+      code-fields (s .args .a) (s .fits .a .fits) (n .0) (x .result .m) (x .result .k) (x .ensures),
+      code-fields (s .args .b) (s .fits .b .fits) (n .1) (y .result .m) (y .result .k) (y .ensures),
+      code-fields (s .args .c) (s .fits .c .fits) (n .2) (z .result .m) (z .result .k) (z .ensures),
+    )
 
 unpacked-requires : tie.Need-unpacked-requires
 unpacked-requires c κs = search needs

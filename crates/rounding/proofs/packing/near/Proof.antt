@@ -4,7 +4,7 @@ use native.Mathlib.Nat.{div-mul-le-self}
 use native.Mathlib.Omega.{arith}
 use borrow.Author.Needs.{needs}
 use lib.Ieee.Nearest.{closest}
-use Rattle.rounding.proofs.Halves.{far, whole-up, whole-down, code-sum, code-near, code-fits}
+use Rattle.rounding.proofs.Halves.{far, whole-up, whole-down, quot-small, code-fits, code-up, code-stay}
 use Rattle.rounding.proofs.packing.near.Statement.{statement}
 use Rattle.rounding.proofs.packing.near.Tie as tie
 
@@ -32,39 +32,31 @@ sub-r : tie.Need-sub-r
 sub-r c =
     omega (arith, div-mul-le-self (c .before .before .args .w) (2 ^ c .before .before .args .sh))
 
-sub-result : tie.Need-sub-result
-sub-result c = search needs
-
-shl-result : tie.Need-shl-result
-shl-result c = search needs
-
-add-result : tie.Need-add-result
-add-result c =
-    let s = c .before .before in
-    record { fits = code-sum (s .args .w) (s .args .sh) (s .fits .w .fits) (s .pre) (omega (arith, c .if2 .left, c .before .if1 .left)) .1 }
-
-sub-result-2 : tie.Need-sub-result-2
-sub-result-2 c =
-    let s = c .before .before in
-    omega (arith, code-sum (s .args .w) (s .args .sh) (s .fits .w .fits) (s .pre) (omega (arith, c .if2 .left, c .before .if1 .left)) .0)
-
-add-result-2 : tie.Need-add-result-2
-add-result-2 c =
-    let s = c .before .before in
-    record { fits = omega (arith, code-sum (s .args .w) (s .args .sh) (s .fits .w .fits) (s .pre) (omega (arith, c .if2 .left, c .before .if1 .left))) }
-
-shr-result : tie.Need-shr-result
-shr-result c = search needs
-
-add-result-3 : tie.Need-add-result-3
-add-result-3 c =
+add-if4 : tie.Need-add-if4
+add-if4 c =
     let s = c .before .before in
     record { fits = code-fits (s .args .w) (s .args .sh) (s .fits .w .fits) (s .pre) (omega (arith, c .if2 .left, c .before .if1 .left)) }
 
+sub-if4 : tie.Need-sub-if4
+sub-if4 c = search needs
+
+shl-if4 : tie.Need-shl-if4
+shl-if4 c = search needs
+
+add-result : tie.Need-add-result
+add-result c =
+    let s = c .before .before .before in
+    record { fits = omega (arith, quot-small (s .args .w) (s .args .sh) (s .fits .w .fits) (s .pre)) }
+
 returns-4 : tie.Need-returns-4
 returns-4 c =
-    let s = c .before .before in
-    code-near (s .args .w) (s .args .sh) (s .fits .w .fits) (s .pre) (omega (arith, c .if2 .left, c .before .if1 .left))
+    let s = c .before .before .before in
+    code-up (s .args .w) (s .args .sh) (s .fits .w .fits) (s .pre) (omega (arith, c .before .if2 .left, c .before .before .if1 .left)) (c .if4 .taken)
+
+returns-5 : tie.Need-returns-5
+returns-5 c =
+    let s = c .before .before .before in
+    code-stay (s .args .w) (s .args .sh) (s .fits .w .fits) (s .pre) (omega (arith, c .before .if2 .left, c .before .before .if1 .left)) (c .if4 .left)
 
 pub near-spec : {M : Type 1} → statement M
 near-spec =
@@ -76,11 +68,9 @@ near-spec =
     shr-q
     shl-r
     sub-r
-    sub-result
-    shl-result
+    add-if4
+    sub-if4
+    shl-if4
     add-result
-    sub-result-2
-    add-result-2
-    shr-result
-    add-result-3
-    returns-4)
+    returns-4
+    returns-5)

@@ -1,3 +1,4 @@
+use mathlib.Core.Path.{_∙_}
 use native.Mathlib.Omega.{arith}
 use borrow.Author.Needs.{needs}
 use Rattle.rounding.proofs.Unpack.{zeros-in, code-lifted, code-lift, code-field, code-exponent}
@@ -19,15 +20,16 @@ sub-t6 c = omega (arith, zeros-in (c .before .args .b) (c .if1 .taken))
 returns : tie.Need-returns
 returns c = (code-lifted (c .before .args .b) (c .if1 .taken), code-lift (c .before .args .b) (c .if1 .taken))
 
-add-t8 : tie.Need-add-t8
-add-t8 c = search needs
-
-add-t10 : tie.Need-add-t10
-add-t10 c = search needs
+fields-requires : tie.Need-fields-requires
+fields-requires c κs = search needs
 
 returns-2 : tie.Need-returns-2
-returns-2 c = (code-field (c .before .args .b) (c .if1 .left), code-exponent (c .before .args .b) (c .if1 .left))
+returns-2 c =
+    let b = c .before .before .args .b in
+    let n = c .before .if1 .left in
+    let f = c .fields .ensures in
+    (f .0 ∙ code-field b n, f .1 ∙ code-exponent b n)
 
 pub unpacked-spec : {M : Type 1} → statement M
 unpacked-spec =
-    tie.close (tie.spec cast-lift sub-lift shl-t5 sub-t6 returns add-t8 add-t10 returns-2)
+    tie.close (tie.spec cast-lift sub-lift shl-t5 sub-t6 returns fields-requires returns-2)
