@@ -158,11 +158,11 @@ fn follow(
 {
     let mut j = start;
     while j < n {
-        let v = time_of(source, x, j);
-        if !stays(t, w, v) {
+        let y = time_of(source, x, j);
+        if !stays(t, w, y) {
             return j;
         }
-        out[j] = interval::inside(w.piece, v);
+        out[j] = interval::inside(w.piece, y);
         j += 1;
     }
     j
