@@ -34,7 +34,7 @@ fn answer(q: Request, rows: &[u8]) -> Answer
     Answer::Refused(10)
 }
 
-fn tell(
+pub fn tell(
     a: Answer,
     speed: &mut u64,
     worst_normalized: &mut u64,

@@ -29,7 +29,13 @@ pub extern "C" fn malikoza_s_to_t(s: &[u8], a: &[u8], t0: u64, out: &mut [u8]) -
 }
 
 // The number of an answer; its counts go to the lent numbers.
-fn tell(a: Sampled, before: &mut u64, inside: &mut u64, past: &mut u64, written: &mut u64) -> u64
+pub fn tell(
+    a: Sampled,
+    before: &mut u64,
+    inside: &mut u64,
+    past: &mut u64,
+    written: &mut u64,
+) -> u64
     ensures { λ r. ⌜ Counted a r (now (before .entry)) (now (before .exit)) (now (inside .entry)) (now (inside .exit)) (now (past .entry)) (now (past .exit)) (now (written .entry)) (now (written .exit)) ⌝ }
 {
     match a {
