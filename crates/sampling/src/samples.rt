@@ -140,36 +140,8 @@ fn stays(t: &[f64], w: Walk, x: f64) -> bool
     }
 }
 
-// The times from `start` on that stay in the walk's interval, whose time is inside: no search is needed for them.
+// The times from `start` on that stay in the walk's interval: no search is needed for them. None does where the walk's time is before or past.
 fn follow(
-    s: &[f64],
-    a: &[f64],
-    t: &[f64],
-    w: Walk,
-    source: Source,
-    x: &[f64],
-    start: usize,
-    n: usize,
-    out: &mut [f64],
-) -> usize
-    requires { ⌜ (length (now t) ≡ length (now s)) × Standing (now s) (now a) (now t) w × (w .interval ≡ intervalOf (now t) (w .time)) × (isInside (now t) (w .time) ≡ true) × (start ≤ n) × (n ≤ length (now out)) × Reaches source (now x) n
-        × (now out ≡ filled (λ j. stationAt (now s) (now a) (now t) (timeOf source (now x) j)) start (now out)) ⌝ }
-    ensures { λ r. ⌜ Followed (now (t .entry)) (timeOf source (now (x .entry))) (λ j. stationAt (now (s .entry)) (now (a .entry)) (now (t .entry)) (timeOf source (now (x .entry)) j)) start n r (now (out .entry)) (now (out .exit)) ⌝ }
-{
-    let mut j = start;
-    while j < n {
-        let y = time_of(source, x, j);
-        if !stays(t, w, y) {
-            return j;
-        }
-        out[j] = interval::inside(w.piece, y);
-        j += 1;
-    }
-    j
-}
-
-// The same, where the walk's time may be before or past: then no time follows.
-fn followers(
     s: &[f64],
     a: &[f64],
     t: &[f64],
@@ -184,10 +156,19 @@ fn followers(
         × (now out ≡ filled (λ j. stationAt (now s) (now a) (now t) (timeOf source (now x) j)) start (now out)) ⌝ }
     ensures { λ r. ⌜ Followed (now (t .entry)) (timeOf source (now (x .entry))) (λ j. stationAt (now (s .entry)) (now (a .entry)) (now (t .entry)) (timeOf source (now (x .entry)) j)) start n r (now (out .entry)) (now (out .exit)) ⌝ }
 {
-    if is_inside(t, w.time, w.interval) {
-        return follow(s, a, t, w, source, x, start, n, out);
+    if !is_inside(t, w.time, w.interval) {
+        return start;
     }
-    start
+    let mut j = start;
+    while j < n {
+        let y = time_of(source, x, j);
+        if !stays(t, w, y) {
+            return j;
+        }
+        out[j] = interval::inside(w.piece, y);
+        j += 1;
+    }
+    j
 }
 
 // The first n times of the source, walked in order.
@@ -221,7 +202,7 @@ pub(crate) fn t_to_s_topp2_core(
         w = interval::advance(w, s, a, t, v);
         out[j] = station(s, a, t, w, v);
         c = tally(c, t, v, w.interval);
-        let next = followers(s, a, t, w, source, x, j + 1, n, out);
+        let next = follow(s, a, t, w, source, x, j + 1, n, out);
         c = more_inside(c, next - (j + 1));
         j = next;
     }

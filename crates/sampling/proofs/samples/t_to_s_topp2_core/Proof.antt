@@ -50,11 +50,11 @@ tally-requires c κs =
     let l = c .before .before .before .before .loop .inv in
     (search needs, c .before .advance .ensures .0, counts-bounded _ _ _ _ (l .4) (omega arith))
 
-add-followers : tie.Need-add-followers Inv-loop μ-loop
-add-followers c = search needs
+add-follow : tie.Need-add-follow Inv-loop μ-loop
+add-follow c = search needs
 
-followers-requires : tie.Need-followers-requires Inv-loop μ-loop
-followers-requires c κs =
+follow-requires : tie.Need-follow-requires Inv-loop μ-loop
+follow-requires c κs =
     let l = c .before .before .before .before .before .before .loop .inv in
     let w = c .before .before .before .advance .ensures in
     let v = c .before .before .before .before .time-of .ensures in
@@ -66,24 +66,24 @@ add-more-inside : tie.Need-add-more-inside Inv-loop μ-loop
 add-more-inside c = search needs
 
 sub-more-inside : tie.Need-sub-more-inside Inv-loop μ-loop
-sub-more-inside c = omega (arith, c .before .before .followers .ensures .onward)
+sub-more-inside c = omega (arith, c .before .before .follow .ensures .onward)
 
 more-inside-requires : tie.Need-more-inside-requires Inv-loop μ-loop
 more-inside-requires c κs =
     let l = c .before .before .before .before .before .before .before .before .before .loop .inv in
     let v = c .before .before .before .before .before .before .before .time-of .ensures in
-    let f = c .before .before .followers .ensures in
+    let f = c .before .before .follow .ensures in
     let d = (rw v at (c .before .before .before .before .tally .ensures)) ∙ counts-turn _ _ _ _ (l .4) in
     (omega (arith, counts-written _ _ _ _ d, f .onward, f .within, l .1), counts-bounded _ _ _ _ d (omega arith))
 
 loop-less : tie.Need-loop-less Inv-loop μ-loop
-loop-less c = omega (arith, c .before .before .before .followers .ensures .onward, c .before .before .before .followers .ensures .within)
+loop-less c = omega (arith, c .before .before .before .follow .ensures .onward, c .before .before .before .follow .ensures .within)
 
 loop-again : tie.Need-loop-again Inv-loop μ-loop
 loop-again c =
     let l = c .before .before .before .before .before .before .before .before .before .before .loop .inv in
     let v = c .before .before .before .before .before .before .before .before .time-of .ensures in
-    let f = c .before .before .before .followers .ensures in
+    let f = c .before .before .before .follow .ensures in
     let e = fill-turn _ _ _ _ _ (omega arith) (l .6) (rw v at (c .before .before .before .before .before .before .station .ensures)) in
     let d = (rw v at (c .before .before .before .before .before .tally .ensures)) ∙ counts-turn _ _ _ _ (l .4) in
     let g = fill-on _ _ _ _ _ _ (f .onward) e (f .left) in
@@ -113,8 +113,8 @@ t-to-s-topp2-core-spec =
     mul-out
     slice-write-out
     tally-requires
-    add-followers
-    followers-requires
+    add-follow
+    follow-requires
     add-more-inside
     sub-more-inside
     more-inside-requires
