@@ -1,15 +1,13 @@
 -- What each row brings to the worst figures and to the projected ends: values to a maximum or a minimum, so that `Gathered` says what follows. Assumes nothing.
 use mathlib.Core.Path.{_≡_, refl, subst}
-use mathlib.Core.Logic.{inl, inr}
 use mathlib.Core.List.{List, [], _∷_, foldl}
-use mathlib.Core.Bool.{Bool, true, false, not, _&&_, cond}
+use mathlib.Core.Bool.{Bool, true, false, cond}
 use lib.Dec.{T}
-use lib.Ieee.{Float, binary64, le, lt, eq, isNan, ofBits, fits}
+use lib.Ieee.{Float, binary64, le, lt, ofBits, fits}
 use lib.Ieee.Bits.{ofBits-fits}
-use lib.Ieee.Fits.{and-l, sub-fits, div-fits}
-use Rattle.number.specs.Leaves.{negative, countsBelow, minimum, maximum}
-use Rattle.number.proofs.Fractions.{or-split}
-use Rattle.number.proofs.Order.{number, no-nan, lt-le, eq-le, le-number, le-reflexive, le-transitive}
+use lib.Ieee.Fits.{sub-fits, div-fits}
+use Rattle.number.specs.Leaves.{minimum, maximum}
+use Rattle.number.proofs.Order.{number, le-number, le-transitive}
 use Rattle.number.proofs.Folds.{All}
 use Rattle.number.proofs.Extremes.{Fits, minimum-lattice, maximum-lattice, maximum-ge}
 use Rattle.loops.specs.Rows.{Row}
