@@ -9,15 +9,19 @@ pub(crate) struct Reply {
     pub written: u64,
 }
 
-// a to b and s to t take no numbers to write.
-pub(crate) fn bare(number: u64) -> Reply {
+fn gathered(number: u64, before: u64, inside: u64, past: u64, written: u64) -> Reply {
     Reply {
         number,
-        before: 7,
-        inside: 7,
-        past: 7,
-        written: 7,
+        before,
+        inside,
+        past,
+        written,
     }
+}
+
+// a to b and s to t take no numbers to write.
+pub(crate) fn bare(number: u64) -> Reply {
+    gathered(number, 7, 7, 7, 7)
 }
 
 pub(crate) fn sloped(s: &[u8], a: &[u8], out: &mut [u8]) -> Reply {
@@ -44,13 +48,7 @@ pub(crate) fn listed(s: &[u8], a: &[u8], t: &[u8], x: &[u8], out: &mut [u8]) -> 
         &mut past,
         &mut written,
     );
-    Reply {
-        number,
-        before,
-        inside,
-        past,
-        written,
-    }
+    gathered(number, before, inside, past, written)
 }
 
 pub(crate) fn gridded(
@@ -79,11 +77,5 @@ pub(crate) fn gridded(
         &mut past,
         &mut written,
     );
-    Reply {
-        number,
-        before,
-        inside,
-        past,
-        written,
-    }
+    gathered(number, before, inside, past, written)
 }

@@ -1,5 +1,5 @@
 -- `minimum` and `maximum` are associative, commutative and idempotent on the values that a format holds, NaN included. So the least and the greatest of a list depend only on which values it has.
--- Assumes nothing.
+-- The greater is no less than a number. Assumes nothing.
 use mathlib.Core.Path.{_≡_, refl, sym, _∙_, subst, fun-ext}
 use mathlib.Core.Logic.{_⊎_, inl, inr}
 use mathlib.Core.List.{List, foldl}
@@ -12,7 +12,7 @@ use lib.Ieee.Fits.{and-l, and-r, and-i, down-pos}
 use Rattle.number.specs.Leaves.{negative, countsBelow, minimum, maximum}
 use Rattle.number.proofs.Patterns.{one-value}
 use Rattle.number.proofs.Fractions.{or-l, or-r, or-split, le→AtMost}
-use Rattle.number.proofs.Order.{number, is-number, is-nan, lt-le, eq-le, le-split, le-transitive, lt-not-le, lt-or-le}
+use Rattle.number.proofs.Order.{number, is-number, is-nan, no-nan, lt-le, eq-le, le-split, le-reflexive, le-transitive, lt-not-le, lt-or-le}
 use Rattle.number.proofs.Folds.{All, Within, TotalOrder, Semilattice, lesser, lesser-lattice, fold-same}
 
 -- ---- x counts no higher than y: y does not count below it
@@ -179,3 +179,13 @@ minimum-same f = fold-same (Fits f) minimum (minimum-lattice f)
 
 pub maximum-same : (f : Format) (b : Float) (l k : List Float) → T (fits f b) → All (Fits f) l → All (Fits f) k → Within l k → Within k l → foldl maximum b l ≡ foldl maximum b k
 maximum-same f = fold-same (Fits f) maximum (maximum-lattice f)
+
+-- the greater is no less than the first, which is a number
+pub maximum-ge : (x y : Float) → T (number x) → T (le x (maximum x y))
+unfolding maximum countsBelow
+maximum-ge x y X = rw (no-nan x X) (go (isNan y) (countsBelow x y) (λ t. t))
+  where
+    go : (n b : Bool) → (T b → T (countsBelow x y)) → T (le x (cond n x (cond b y x)))
+    go true b h = le-reflexive x X
+    go false false h = le-reflexive x X
+    go false true h = elim (or-split (lt x y) (eq x y && (negative x && not (negative y))) (h tt)) [ inl l ↦ lt-le x y l | inr e ↦ eq-le x y (and-l (eq x y) (negative x && not (negative y)) e) ]

@@ -1,5 +1,5 @@
 -- Which of its operands `minimum` or `maximum` is, by the tests that tell: less, greater, equal with a sign, or a NaN on either side. Assumes nothing.
-use mathlib.Core.Path.{_≡_, refl, sym, _∙_}
+use mathlib.Core.Path.{_≡_, refl, sym, ap, _∙_}
 use mathlib.Core.Bool.{Bool, true, false, not, _&&_, _||_, cond}
 use lib.Dec.{T}
 use lib.Ieee.{Float, Format, lt, eq, isNan, fits}
@@ -118,3 +118,17 @@ maximum-other f x y F G h s = equal-second f x y (countsBelow x y) F G h (λ n. 
 pub maximum-nan : (x y : Float) → lt x y ≡ false → lt y x ≡ false → eq x y ≡ false → cond (isNan x) y x ≡ maximum x y
 unfolding maximum
 maximum-nan x y l g n = beside x y (countsBelow x y) l g n
+
+-- the second, a number without a sign, unless the first is above it
+pub maximum-kept : (f : Format) (x y : Float) → T (fits f x) → T (fits f y) → T (number y) → negative y ≡ false → lt y x ≡ false → y ≡ maximum x y
+maximum-kept f x y F G Y n l = go (lt x y) (eq x y) refl refl
+  where
+    turned : (b : Bool) → (T b → T (eq x y)) → eq x y ≡ false → b ≡ false
+    turned true h i = absurd (fails i (h tt))
+    turned false h i = refl
+
+    go : (a b : Bool) → lt x y ≡ a → eq x y ≡ b → y ≡ maximum x y
+    go true b h i = maximum-more x y h
+    go false true h i = maximum-other f x y F G i n
+    go false false h i =
+        ap (λ (t : Bool). cond t y x) (sym (is-true (isNan x) (second-nan y x Y l h (turned (eq y x) (eq-symmetric y x) i)))) ∙ maximum-nan x y h l i

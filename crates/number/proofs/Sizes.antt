@@ -2,7 +2,7 @@
 -- and 2 ^ w - 1 from 2 ^ w up. Assumes nothing.
 use mathlib.Core.Path.{_≡_, refl, sym, ap, _∙_}
 use mathlib.Core.Logic.{inl, inr}
-use mathlib.Core.Bool.{Bool, true, false, not, true≢false, false≢true}
+use mathlib.Core.Bool.{Bool, true, false, not, _&&_, true≢false, false≢true}
 use Prim.Native.Nat.{ℕ, zero, suc, _+_, _-_, _*_, _/_, _^_, _≤_, _<_}
 use native.Mathlib.Nat.{zero-add, zero-mul, one-mul, mul-one, mul-pos, zero-lt-suc, div-eq-of-lt, le-div-iff-mul-le}
 use native.Mathlib.Omega.{arith}
@@ -16,7 +16,7 @@ use lib.Ieee.Scale.{finite}
 use Rattle.number.specs.Leaves.{absolute}
 use Rattle.number.proofs.Patterns.{round-self}
 use Rattle.number.proofs.Fractions.{plusOf, minusOf, le→AtMost, AtMost→le, lt→Below, Below→lt}
-use Rattle.number.proofs.Order.{below-zero, holds, fails, number, nought, lt-not-le, le-lt-transitive, le-number, greatest, no-less, not-infinite, lt-or-le}
+use Rattle.number.proofs.Order.{below-zero, holds, fails, number, nought, eq-le, eq-ge, le-transitive, le-antisymmetric, lt-not-le, le-lt-transitive, le-number, greatest, no-less, not-infinite, lt-or-le}
 use Rattle.number.proofs.Monotone.{sub-number, sub-turns}
 use Rattle.number.proofs.Rounded.{Rounds, zero-equals, sum-rounds}
 
@@ -43,6 +43,26 @@ finite-test f nan = refl
 finite-test f (inf true) = refl
 finite-test f (inf false) = refl
 finite-test f (fin s m e) = is-true (eq (sub f (fin s m e) (fin s m e)) nought) (finite-leaves f s m e)
+
+-- of two: a NaN equals nothing, and one zero equals another
+no-equal : (x : Float) → eq x nan ≡ false
+unfolding eq
+no-equal nan = refl
+no-equal (inf s) = refl
+no-equal (fin s m e) = refl
+
+zeros-equal : (x y : Float) → T (eq x nought) → T (eq y nought) → T (eq x y)
+zeros-equal x y X Y = le-antisymmetric x y (le-transitive x nought y (eq-le x nought X) (eq-ge y nought Y)) (le-transitive y nought x (eq-le y nought Y) (eq-ge x nought X))
+
+pub both-finite-test : (f : Format) (x y : Float) → eq (sub f x x) (sub f y y) ≡ (finite x && finite y)
+unfolding sub eq
+both-finite-test f nan y = refl
+both-finite-test f (inf true) y = refl
+both-finite-test f (inf false) y = refl
+both-finite-test f (fin s m e) nan = no-equal (sub f (fin s m e) (fin s m e))
+both-finite-test f (fin s m e) (inf true) = no-equal (sub f (fin s m e) (fin s m e))
+both-finite-test f (fin s m e) (inf false) = no-equal (sub f (fin s m e) (fin s m e))
+both-finite-test f (fin s m e) (fin t n d) = is-true (eq (sub f (fin s m e) (fin s m e)) (sub f (fin t n d) (fin t n d))) (zeros-equal (sub f (fin s m e) (fin s m e)) (sub f (fin t n d) (fin t n d)) (finite-leaves f s m e) (finite-leaves f t n d))
 
 -- ---- the absolute value, by what the value leaves of +0
 

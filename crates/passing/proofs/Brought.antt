@@ -1,17 +1,15 @@
 -- What each row brings to the worst figures and to the projected ends: values to a maximum or a minimum, so that `Gathered` says what follows. Assumes nothing.
 use mathlib.Core.Path.{_≡_, refl, subst}
-use mathlib.Core.Logic.{inl, inr}
 use mathlib.Core.List.{List, [], _∷_, foldl}
-use mathlib.Core.Bool.{Bool, true, false, not, _&&_, cond}
+use mathlib.Core.Bool.{Bool, true, false, cond}
 use lib.Dec.{T}
-use lib.Ieee.{Float, binary64, le, lt, eq, isNan, ofBits, fits}
+use lib.Ieee.{Float, binary64, le, lt, ofBits, fits}
 use lib.Ieee.Bits.{ofBits-fits}
-use lib.Ieee.Fits.{and-l, sub-fits, div-fits}
-use Rattle.number.specs.Leaves.{negative, countsBelow, minimum, maximum}
-use Rattle.number.proofs.Fractions.{or-split}
-use Rattle.number.proofs.Order.{number, no-nan, lt-le, eq-le, le-number, le-reflexive, le-transitive}
+use lib.Ieee.Fits.{sub-fits, div-fits}
+use Rattle.number.specs.Leaves.{minimum, maximum}
+use Rattle.number.proofs.Order.{number, le-number, le-transitive}
 use Rattle.number.proofs.Folds.{All}
-use Rattle.number.proofs.Extremes.{Fits, minimum-lattice, maximum-lattice}
+use Rattle.number.proofs.Extremes.{Fits, minimum-lattice, maximum-lattice, maximum-ge}
 use Rattle.loops.specs.Rows.{Row}
 use Rattle.limits.specs.Doubles as doubles
 use Rattle.limits.specs.Doubles.{_⊘_}
@@ -109,16 +107,6 @@ module _ (q : Request) where
 
 -- ---- the bounds and the projected ends
 
--- the greater is no less than the first, which is a number
-not-less : (x y : Float) → T (number x) → T (le x (maximum x y))
-unfolding maximum countsBelow
-not-less x y X = rw (no-nan x X) (go (isNan y) (countsBelow x y) (λ t. t))
-  where
-    go : (n b : Bool) → (T b → T (countsBelow x y)) → T (le x (cond n x (cond b y x)))
-    go true b h = le-reflexive x X
-    go false false h = le-reflexive x X
-    go false true h = elim (or-split (lt x y) (eq x y && (negative x && not (negative y))) (h tt)) [ inl l ↦ lt-le x y l | inr e ↦ eq-le x y (and-l (eq x y) (negative x && not (negative y)) e) ]
-
 module _ (q : Request) (D : Doubles q) where
   abbrev ends : Span
   ends = record { low = lower q; high = upper q }
@@ -140,9 +128,9 @@ module _ (q : Request) (D : Doubles q) where
   lower-from-zero : T (le doubles.zero (lower q))
   lower-from-zero =
       subst (λ (x : Float). T (le doubles.zero x)) (maximum-lattice binary64 .commutative doubles.zero (q .«curr_backward» .lower) (ofBits-fits binary64 0) (D .lower-fits))
-      (not-less doubles.zero (q .«curr_backward» .lower) zero-number)
+      (maximum-ge doubles.zero (q .«curr_backward» .lower) zero-number)
 
   pub low-from-zero : (rows : List Row) → T (le doubles.zero (projected q rows .low))
   low-from-zero =
       fold-keeps (λ (s : Span). s .low) maximum (narrowed q) (asLow q) (brings-low q) (λ (x : Float). T (le doubles.zero x)) (Fits binary64)
-      (λ x y p k. le-transitive doubles.zero x (maximum x y) p (not-less x y (le-number doubles.zero x p .1))) (low-held q) ends lower-from-zero
+      (λ x y p k. le-transitive doubles.zero x (maximum x y) p (maximum-ge x y (le-number doubles.zero x p .1))) (low-held q) ends lower-from-zero

@@ -23,6 +23,16 @@ const THIRD: u64 = 0x2345_6789_abcd_ef01;
 
 const FOURTH: u64 = 0x3456_789a_bcde_f012;
 
+fn gathered(number: u64, first: u64, second: u64, third: u64, fourth: u64) -> Told {
+    Told {
+        number,
+        first,
+        second,
+        third,
+        fourth,
+    }
+}
+
 // A leaf's operands are the numbers 2 to 4; it takes the first ones it needs.
 pub(crate) fn leaf(case: &[u8]) -> u64 {
     let x = word(case, 2);
@@ -62,24 +72,12 @@ fn recover(case: &[u8], rows: &[u8]) -> Told {
         &mut third,
         &mut fourth,
     );
-    Told {
-        number,
-        first,
-        second,
-        third,
-        fourth,
-    }
+    gathered(number, first, second, third, fourth)
 }
 
 // For the entries that are lent no numbers.
 fn only(number: u64) -> Told {
-    Told {
-        number,
-        first: FIRST,
-        second: SECOND,
-        third: THIRD,
-        fourth: FOURTH,
-    }
+    gathered(number, FIRST, SECOND, THIRD, FOURTH)
 }
 
 fn list(s: &[u8], a: &[u8], t: &[u8], x: &[u8], out: &mut [u8]) -> Told {
@@ -98,13 +96,7 @@ fn list(s: &[u8], a: &[u8], t: &[u8], x: &[u8], out: &mut [u8]) -> Told {
         &mut third,
         &mut fourth,
     );
-    Told {
-        number,
-        first,
-        second,
-        third,
-        fourth,
-    }
+    gathered(number, first, second, third, fourth)
 }
 
 fn grid(case: &[u8], s: &[u8], a: &[u8], t: &[u8], out: &mut [u8]) -> Told {
@@ -125,13 +117,7 @@ fn grid(case: &[u8], s: &[u8], a: &[u8], t: &[u8], out: &mut [u8]) -> Told {
         &mut third,
         &mut fourth,
     );
-    Told {
-        number,
-        first,
-        second,
-        third,
-        fourth,
-    }
+    gathered(number, first, second, third, fourth)
 }
 
 fn enter(case: &[u8], s: &[u8], a: &[u8], t: &[u8], x: &[u8], out: &mut [u8]) -> Told {

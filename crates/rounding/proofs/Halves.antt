@@ -1,6 +1,6 @@
 -- A fraction whose denominator is a power of two, rounded to the nearest whole number.
 use mathlib.Core.Path.{_≡_, refl, sym, ap, _∙_, subst}
-use Prim.Native.Nat.{ℕ, zero, suc, _+_, _-_, _*_, _/_, _%_, _^_, _≤_, _<_, compare, Ordering, Ordering·lt, Ordering·eq, Ordering·gt}
+use Prim.Native.Nat.{ℕ, _+_, _-_, _*_, _/_, _%_, _^_, _≤_, _<_, compare, Ordering, Ordering·lt, Ordering·eq, Ordering·gt}
 use mathlib.Core.Logic.{⊎-elim}
 use native.Mathlib.Nat.{eq-or-lt-of-le, lt-of-le-of-lt, lt-of-lt-of-le, div-mul-le-self, mod-eq-of-lt, mod-eq-sub-div-mul, div-eq-of-lt, mod-lt, add-zero, one-mul}
 use native.Mathlib.Omega.{arith}

@@ -1,7 +1,6 @@
 // One pass over the rows before the first candidate: refusals 5 and 6, and the table. Each norm is worked out here and nowhere else.
 use limits::request::Request;
 use limits::table::Block;
-use number::pick;
 use number::size;
 use roots::hypot;
 ghost use mathlib.Core.Path.{_≡_};
@@ -12,7 +11,9 @@ ghost use lib.ListN.{length};
 ghost use lib.Seq.{sets};
 ghost use lib.Ieee.{Float};
 ghost use lib.Ieee.Scale.{finite};
+ghost use Rattle.number.specs.Leaves.{absolute, maximum};
 ghost use Rattle.loops.specs.Rows.{row, rowsOf, fold};
+ghost use Rattle.limits.specs.Doubles.{one};
 ghost use Rattle.limits.specs.Table.{doublesIn};
 ghost use Rattle.topp2_ra.specs.Filling.{countOf, foundIn, unmet, withBlock, foundRow, start};
 
@@ -64,13 +65,19 @@ fn add(table: &mut [f64], s: Filled, b: Block) -> Filled
     }
 }
 
+// What is finite leaves a zero when it is taken from itself, all else a NaN, which equals nothing.
 fn both_finite(x: f64, y: f64) -> bool
     ensures { λ b. ⌜ b ≡ finite x && finite y ⌝ }
 {
-    if size::finite(x) {
-        return size::finite(y);
-    }
-    false
+    x - x == y - y
+}
+
+// The greater of the size and 1: a NaN is not above 1.
+fn scale(r: f64) -> f64
+    ensures { λ v. ⌜ v ≡ maximum (absolute r) one ⌝ }
+{
+    let size = size::absolute(r);
+    if 1.0 < size { size } else { 1.0 }
 }
 
 // One row more. A norm that is finite has finite parts.
@@ -87,7 +94,7 @@ fn enter(q: Request, c: f64, p: f64, r: f64, table: &mut [f64], s: Filled) -> Fi
             return s;
         }
         let inv = 1.0 / norm;
-        let tol = q.feas_tol * pick::maximum(size::absolute(r), 1.0);
+        let tol = q.feas_tol * scale(r);
         if both_finite(inv, tol) {
             let b = Block {
                 slope: c * inv,

@@ -1,5 +1,4 @@
 use mathlib.Core.Path.{sym, ap}
-use Prim.Native.Nat.{ℕ}
 use mathlib.Core.Bool.{cond}
 use borrow.Author.Tests.{lt-ltb, le-ltb}
 use Rattle.roots.proofs.hypot.in_order.Statement.{statement}

@@ -1,9 +1,8 @@
 use mathlib.Core.Path.{sym, ap, _∙_}
 use native.Mathlib.Omega.{arith}
 use lib.Ieee.{Float}
-use Rattle.number.specs.Leaves.{maximum}
 use Rattle.loops.specs.Rows.{row}
-use Rattle.limits.specs.Doubles.{one, _⊗_}
+use Rattle.limits.specs.Doubles.{_⊗_}
 use Rattle.topp2_ra.specs.Filling.{foundIn}
 use Rattle.topp2_ra.proofs.Entering.{numbers-unfit, row-unmet, row-silent, scale-unfit, row-says}
 use borrow.Author.Needs.{needs}
@@ -38,11 +37,8 @@ returns-2 c =
       omega arith,
     )
 
-absolute-requires : tie.Need-absolute-requires
-absolute-requires c κs = search needs
-
-maximum-requires : tie.Need-maximum-requires
-maximum-requires c κs = search needs
+scale-requires : tie.Need-scale-requires
+scale-requires c κs = search needs
 
 both-finite-requires-2 : tie.Need-both-finite-requires-2
 both-finite-requires-2 c κs = search needs
@@ -56,13 +52,13 @@ same-length c = search needs
 returns-3 : tie.Need-returns-3
 returns-3 c =
     let m = c .before .before .before .before .before .before .before .before .before in
-    let h = m .before .before .before .before .before in
+    let h = m .before .before .before .before in
     let a = h .before .before .args in
     let v = c .before .before .add .ensures in (
       v .0 ∙ row-says (a .q) (row (a .c) (a .p) (a .r)) (foundIn (a .table .now) (a .s)) _ _ (h .hypot .ensures)
-          (ap (λ (y : Float). a .q .«feas_tol» ⊗ y) (m .maximum .ensures ∙ ap (λ (y : Float). maximum y one) (m .before .absolute .ensures)))
-          (sym (m .before .before .before .before .both-finite .ensures) ∙ m .before .before .before .if1 .taken)
-          (m .before .before .if2 .left)
+          (ap (λ (y : Float). a .q .«feas_tol» ⊗ y) (m .scale .ensures))
+          (sym (m .before .before .before .both-finite .ensures) ∙ m .before .before .if1 .taken)
+          (m .before .if2 .left)
           (sym (c .before .before .before .before .before .before .before .both-finite2 .ensures) ∙ c .before .before .before .before .before .before .if4 .taken),
       v .1,
     )
@@ -70,12 +66,12 @@ returns-3 c =
 returns-4 : tie.Need-returns-4
 returns-4 c =
     let m = c .before .before .before in
-    let h = m .before .before .before .before .before in
+    let h = m .before .before .before .before in
     let a = h .before .before .args in (
       scale-unfit (a .q) (row (a .c) (a .p) (a .r)) (foundIn (a .table .now) (a .s)) _ _ (h .hypot .ensures)
-          (ap (λ (y : Float). a .q .«feas_tol» ⊗ y) (m .maximum .ensures ∙ ap (λ (y : Float). maximum y one) (m .before .absolute .ensures)))
-          (sym (m .before .before .before .before .both-finite .ensures) ∙ m .before .before .before .if1 .taken)
-          (m .before .before .if2 .left)
+          (ap (λ (y : Float). a .q .«feas_tol» ⊗ y) (m .scale .ensures))
+          (sym (m .before .before .before .both-finite .ensures) ∙ m .before .before .if1 .taken)
+          (m .before .if2 .left)
           (sym (c .before .both-finite2 .ensures) ∙ c .if4 .left),
       omega arith,
     )
@@ -97,8 +93,7 @@ enter-spec =
     refuse-requires
     returns
     returns-2
-    absolute-requires
-    maximum-requires
+    scale-requires
     both-finite-requires-2
     add-requires
     same-length
