@@ -1,5 +1,7 @@
 //! What each call must leave behind, and what the original says to the same input.
 
+#[allow(unused_imports)]
+use crate::original::completed::NextDown;
 use crate::case::{alike, Answer, Case, Entry, LENT};
 use crate::leaves;
 use crate::library;

@@ -1,5 +1,7 @@
 //! The number leaves beside Rust's own functions, and the three that round beside "nearest" itself.
 
+#[allow(unused_imports)]
+use crate::original::completed::NextDown;
 use crate::case::{alike, pattern, Case, Entry};
 use crate::exact;
 use crate::library;

@@ -1,5 +1,7 @@
 //! Recovery, straight from document 01's section of that name: number, figures, candidates tried, and the way the answer was found.
 
+#[allow(unused_imports)]
+use crate::original::completed::NextDown;
 use crate::case::{pattern, Answer, Case};
 use crate::original::hypot;
 use crate::slips::Slip;

@@ -90,3 +90,25 @@ macro_rules! izip {
     };
 }
 pub(crate) use izip;
+
+/// Completed for a Rust older than 1.86, whose `f64` has no stable `next_down`; a newer one takes its own. Document 01: "Next down: the next smaller double;
+/// both zeros go to -2^-1074; minus infinity and NaN stay."
+#[allow(dead_code)]
+pub trait NextDown {
+    fn next_down(self) -> f64;
+}
+
+impl NextDown for f64 {
+    fn next_down(self) -> f64 {
+        let pattern = self.to_bits();
+        if self.is_nan() || self == f64::NEG_INFINITY {
+            self
+        } else if self == 0.0 {
+            f64::from_bits(0x8000_0000_0000_0001)
+        } else if self > 0.0 {
+            f64::from_bits(pattern - 1)
+        } else {
+            f64::from_bits(pattern + 1)
+        }
+    }
+}

@@ -24,6 +24,8 @@
 // SOFTWARE.
 
 // Changed: what these lines name stands in completed.rs, and in the module that includes this one.
+#[allow(unused_imports)]
+use super::completed::NextDown;
 use super::completed::{ApproxOrdering, ReachSet2Options, approx_order};
 use super::{asked, hypot};
 
