@@ -80,8 +80,8 @@ fn between(a: f64, p: f64, b: f64) -> bool
     false
 }
 
-// The exact product is between two neighbours of the rounded one. Where the sum with either is the same number, so is the sum with what is between them:
-// most often that is so. Of a zero they do not tell the sign.
+// near and far are a step or two from the rounded product, one below and one above it, so the exact product is between them. Where the sum with either is
+// the same number, so is the sum with the exact product; the smaller the product beside z, the more often. Of a zero they do not tell the sign.
 pub fn fma(x: f64, y: f64, z: f64) -> f64
     ensures { λ r. ⌜ r ≡ fmaOf binary64 x y z ⌝ }
 {

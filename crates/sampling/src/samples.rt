@@ -129,6 +129,7 @@ fn station(s: &[f64], a: &[f64], t: &[f64], w: Walk, x: f64) -> f64
     }
 }
 
+// A time that stays has the walk's interval, and need not be looked for.
 fn stays(t: &[f64], w: Walk, x: f64) -> bool
     requires { ⌜ w .interval + 1 < length (now t) ⌝ }
     ensures { λ r. ⌜ r ≡ stays (now (t .entry)) w x ⌝ }
@@ -140,7 +141,7 @@ fn stays(t: &[f64], w: Walk, x: f64) -> bool
     }
 }
 
-// The times from `start` on that stay in the walk's interval: no search is needed for them. None does where the walk's time is before or past.
+// The entries from `start` on, as long as their times stay. None does where the walk's time is before or past.
 fn follow(
     s: &[f64],
     a: &[f64],
