@@ -78,6 +78,13 @@ pub fn patterns(entry: Entry, random: &mut Random) -> [u64; 3] {
             let product = pattern(f64::from_bits(x) * f64::from_bits(y));
             [x, y, random.beside(product) ^ SIGN]
         }
+        // few digits, and an addend up to 2^70 times the product or its part: sums at a double, half way between two, and beside both
+        (Entry::Fma, 2) => {
+            let (x, y) = (x & !0x3ff_ffff, y & (!0 << random.below(53)));
+            let product = f64::from_bits(x) * f64::from_bits(y);
+            let addend = pattern(product * random.power(-70, 71)) & (!0 << random.below(53));
+            [x, y, random.beside(addend) ^ (random.next() & SIGN)]
+        }
         // parts of like size
         (Entry::Hypot, 0) => [x, x.wrapping_add(random.next() >> random.below(64)), 0],
         // m² - k² and 2mk: their length m² + k² is exact, or half way between two doubles if it has 54 digits
