@@ -8,14 +8,14 @@ use native.Mathlib.Nat.{mul-pos, le-of-lt, le-of-mul-le-mul-right}
 use native.Mathlib.Omega.{arith}
 use lib.IntN.{ℤ}
 use lib.Dec.{T}
-use lib.Ieee.{Float, nan, inf, fin, Format, up, down, unlike, round, sum, add, mul, le, lt, eq, ne, fits}
+use lib.Ieee.{Float, nan, inf, fin, Format, up, down, unlike, round, add, mul, le, lt, eq, ne, fits}
 use lib.Ieee.Fits.{down-pos, round-fits, nan-fits, inf-fits, add-fits}
 use lib.Ieee.Bits.{is-true}
 use lib.Ieee.Scale.{finite}
 use lib.Ieee.Positive.{den, den-pos}
 use Rattle.number.specs.Leaves.{negative}
 use Rattle.number.proofs.Fractions.{plusOf, minusOf, plus-times, minus-times, plusPart, minusPart, AtMost, le→AtMost, AtMost→le}
-use Rattle.number.proofs.Order.{holds, number, nought, least, greatest, less-or-not, le-number, le-reflexive, le-transitive, le-antisymmetric, eq-le, eq-ge, lt-le, lt-not-le, no-less, no-more, strictly-finite}
+use Rattle.number.proofs.Order.{holds, number, nought, least, greatest, less-or-not, le-number, le-reflexive, le-transitive, le-antisymmetric, eq-le, eq-ge, lt-le, lt-not-le, strictly-finite}
 use Rattle.number.proofs.Rounded.{Rounds, sum-rounds, add-rounds, mul-rounds, rounds-mono}
 use Rattle.number.proofs.Monotone.{add-commutative, add-fractions, add-infinite, mul-finite, rounds-number}
 use Rattle.number.proofs.Patterns.{round-self}
@@ -149,7 +149,7 @@ module _ (f : Format) (x y : Float) (X : T (finite x)) (Y : T (finite y)) where
 
 -- ---- one value
 
--- equal values that are no zeros have one sign
+-- a finite value of size zero is a zero
 nothing : (s : Bool) (m : ℕ) (e : ℤ) → m * up e ≤ 0 → T (eq (fin s m e) nought)
 nothing s m e h = le-antisymmetric (fin s m e) nought (AtMost→le (fin s m e) nought tt tt (rest s .0)) (AtMost→le nought (fin s m e) tt tt (rest s .1))
   where
@@ -157,6 +157,7 @@ nothing s m e h = le-antisymmetric (fin s m e) nought (AtMost→le (fin s m e) n
     rest true = (omega (arith, h), omega (arith, h))
     rest false = (omega (arith, h), omega (arith, h))
 
+-- equal values that are no zeros have one sign
 one-sign : (x y : Float) → T (eq x y) → (T (eq x nought) → ⊥) → negative x ≡ negative y
 unfolding negative
 one-sign nan y h n = absurd (unfold eq in h)
@@ -173,6 +174,7 @@ one-sign (fin true m e) (fin false k d) h n = absurd (n (nothing true m e (le-of
 one-sign (fin false m e) (fin true k d) h n = absurd (n (nothing false m e (le-of-mul-le-mul-right {k = down d} (omega (arith, le→AtMost (fin false m e) (fin true k d) tt tt (eq-le (fin false m e) (fin true k d) h))) (down-pos d))))
 one-sign (fin false m e) (fin false k d) h n = refl
 
+-- r is no more than the sum with what is below the product, and no less than the sum with what is above it
 enclosed : (f : Format) (x y z l h r : Float) → T (fits f l) → T (fits f h) → T (fits f r) → T (lt l (mul f x y)) → T (lt (mul f x y) h) → T (le r (add f l z)) → T (le (add f h z) r) → (T (eq r nought) → ⊥)
     → r ≡ fmaOf f x y z
 enclosed f x y z l h r L H R a b c d n =

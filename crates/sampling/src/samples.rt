@@ -4,7 +4,7 @@ use crate::interval::Walk;
 use interpolation::checks;
 use loops::chain::or;
 ghost use mathlib.Core.Path.{_≡_};
-ghost use mathlib.Core.Bool.{true, not, cond, _&&_};
+ghost use mathlib.Core.Bool.{not, cond, _&&_};
 ghost use Prim.Native.Nat.{_+_, _≤_, _<_};
 ghost use lib.Dec.{eqb};
 ghost use lib.ListN.{length};
