@@ -1,25 +1,22 @@
 -- Where the exact product need not be known: the rounded product lies strictly between two values, so the exact one lies between them too, since rounding keeps the order and a value of
 -- the format is its own rounding. The sum with the exact product is then between the sums with the two; where those are one value and no zero, it is that value. Over any format. Assumes nothing.
-use mathlib.Core.Path.{_≡_, refl, sym, ap, _∙_}
+use mathlib.Core.Path.{_≡_, refl, sym, _∙_}
 use mathlib.Core.Logic.{_⊎_, inl, inr}
 use mathlib.Core.Bool.{Bool, true, false, not, _&&_, cond}
-use Prim.Native.Nat.{ℕ, _+_, _-_, _*_, _≤_, _<_}
-use native.Mathlib.Nat.{mul-pos, le-of-lt, le-of-mul-le-mul-right}
+use Prim.Native.Nat.{ℕ, _+_, _*_, _<_}
+use native.Mathlib.Nat.{mul-pos}
 use native.Mathlib.Omega.{arith}
-use lib.IntN.{ℤ}
 use lib.Dec.{T}
-use lib.Ieee.{Float, nan, inf, fin, Format, up, down, unlike, round, add, mul, le, lt, eq, ne, fits}
-use lib.Ieee.Fits.{down-pos, round-fits, nan-fits, inf-fits, add-fits}
-use lib.Ieee.Bits.{is-true}
+use lib.Ieee.{Float, nan, inf, fin, Format, up, down, unlike, add, mul, le, lt, eq, ne, fits}
+use lib.Ieee.Fits.{nan-fits, inf-fits, add-fits}
 use lib.Ieee.Scale.{finite}
 use lib.Ieee.Positive.{den, den-pos}
-use Rattle.number.specs.Leaves.{negative}
-use Rattle.number.proofs.Fractions.{plusOf, minusOf, plus-times, minus-times, plusPart, minusPart, AtMost, le→AtMost, AtMost→le}
-use Rattle.number.proofs.Order.{holds, number, nought, least, greatest, less-or-not, le-number, le-reflexive, le-transitive, le-antisymmetric, eq-le, eq-ge, lt-le, lt-not-le, strictly-finite}
-use Rattle.number.proofs.Rounded.{Rounds, sum-rounds, add-rounds, mul-rounds, rounds-mono}
+use Rattle.number.proofs.Fractions.{plusOf, minusOf, plus-times, minus-times, plusPart, minusPart}
+use Rattle.number.proofs.Order.{holds, number, nought, least, greatest, le-number, le-reflexive, le-transitive, le-antisymmetric, eq-le, eq-ge, lt-le, lt-not-le, strictly-finite}
+use Rattle.number.proofs.Rounded.{Rounds, rounds-fits, sum-rounds, add-rounds, mul-rounds, rounds-mono, rounds-lt}
 use Rattle.number.proofs.Monotone.{add-commutative, add-fractions, add-infinite, mul-finite, rounds-number}
-use Rattle.number.proofs.Patterns.{round-self}
-use Rattle.number.proofs.Picks.{equal}
+use Rattle.number.proofs.Patterns.{own-rounds}
+use Rattle.number.proofs.Picks.{equal-but-zero}
 use Rattle.fused.specs.Fused.{fmaOf}
 
 -- ---- what is rounded
@@ -62,17 +59,6 @@ fma-rounds f (fin s m e) (fin t n d) (fin u l g) X Y Z =
     rw (sym (times-plus s (m * up e) t (n * up d)), sym (times-minus s (m * up e) t (n * up d)))
     (simp (plus-times, minus-times) (unfold fmaOf in sum-rounds f (unlike s t) (m * up e * (n * up d) * down g) u (l * up g * (down e * down d)) (down e * down d * down g)))
 
-rounds-fits : (f : Format) (x : Float) (p n d : ℕ) → Rounds f x p n d → T (fits f x)
-rounds-fits f x p n d (inl (a, e)) = rw e (round-fits f false (p - n) d)
-rounds-fits f x p n d (inr (a, e)) = rw e (round-fits f true (n - p) d)
-
--- a value of the format is its own rounding
-own-rounds : (f : Format) (x : Float) → T (fits f x) → T (finite x) → Rounds f x (plusPart x) (minusPart x) (den x)
-own-rounds f nan F X = absurd X
-own-rounds f (inf s) F X = absurd X
-own-rounds f (fin false m e) F X = inl (omega arith, sym (round-self f false m e F) ∙ ap (λ (n : ℕ). round f false n (down e)) (omega arith))
-own-rounds f (fin true m e) F X = inr (omega arith, sym (round-self f true m e F) ∙ ap (λ (n : ℕ). round f true n (down e)) (omega arith))
-
 -- an infinite addend stays what it is
 fma-infinite : (f : Format) (x y : Float) (u : Bool) → T (finite x) → T (finite y) → fmaOf f x y (inf u) ≡ inf u
 fma-infinite f nan y u X Y = absurd X
@@ -81,24 +67,11 @@ fma-infinite f (fin s m e) nan u X Y = absurd Y
 fma-infinite f (fin s m e) (inf t) u X Y = absurd Y
 fma-infinite f (fin s m e) (fin t n d) u X Y = unfold fmaOf in refl
 
--- ---- below and above
+-- ---- below and above: a value of the format on one side of the rounded product is not on the other side of the exact one (`rounds-lt`)
 
 module _ (f : Format) (x y : Float) (X : T (finite x)) (Y : T (finite y)) where
   D : 0 < den x * den y
   D = mul-pos (den-pos x) (den-pos y)
-
-  -- what is strictly below the rounded product is not above the exact one
-  exact-above : (l : Float) → T (fits f l) → T (finite l) → T (lt l (mul f x y)) → AtMost (plusPart l) (minusPart l) (den l) (plusProduct x y) (minusProduct x y) (den x * den y)
-  exact-above l F L h = elim (less-or-not (plusProduct x y * den l + minusPart l * (den x * den y)) (plusPart l * (den x * den y) + minusProduct x y * den l)) [
-    | inl b ↦ absurd (lt-not-le l (mul f x y) h (rounds-mono f (mul f x y) l _ _ (den x * den y) _ _ (den l) D (den-pos l) (mul-rounds f x y X Y) (own-rounds f l F L) (le-of-lt b)))
-    | inr g ↦ g
-  ]
-
-  exact-below : (h : Float) → T (fits f h) → T (finite h) → T (lt (mul f x y) h) → AtMost (plusProduct x y) (minusProduct x y) (den x * den y) (plusPart h) (minusPart h) (den h)
-  exact-below h F H k = elim (less-or-not (plusPart h * (den x * den y) + minusProduct x y * den h) (plusProduct x y * den h + minusPart h * (den x * den y))) [
-    | inl b ↦ absurd (lt-not-le (mul f x y) h k (rounds-mono f h (mul f x y) _ _ (den h) _ _ (den x * den y) (den-pos h) D (own-rounds f h F H) (mul-rounds f x y X Y) (le-of-lt b)))
-    | inr g ↦ g
-  ]
 
   sum-infinite : (k : Float) (u : Bool) → T (number (add f k (inf u))) → add f k (inf u) ≡ inf u
   sum-infinite k u n = add-commutative f k (inf u) ∙ add-infinite f u k (rw (add-commutative f k (inf u)) at n)
@@ -116,7 +89,7 @@ module _ (f : Format) (x y : Float) (X : T (finite x)) (Y : T (finite y)) where
       let l = fin s k d in
       let z = fin u m e in
       rounds-mono f (add f l z) (fmaOf f x y z) _ _ (den l * den z) _ _ (den x * den y * den z) (mul-pos (den-pos l) (den-pos z)) (mul-pos D (den-pos z)) (add-rounds f l z tt tt) (fma-rounds f x y z X Y tt)
-      (add-fractions (plusPart l) (minusPart l) (den l) (plusProduct x y) (minusProduct x y) (den x * den y) (plusPart z) (minusPart z) (den z) (exact-above l F tt h))
+      (add-fractions (plusPart l) (minusPart l) (den l) (plusProduct x y) (minusProduct x y) (den x * den y) (plusPart z) (minusPart z) (den z) (rounds-lt f l (mul f x y) _ _ (den l) _ _ (den x * den y) (den-pos l) D (own-rounds f l F tt) (mul-rounds f x y X Y) h))
 
   fma-fits : (z : Float) → T (fits f (fmaOf f x y z))
   fma-fits nan = go x y X Y
@@ -145,34 +118,9 @@ module _ (f : Format) (x y : Float) (X : T (finite x)) (Y : T (finite y)) where
       go (fin s j d) F k =
           let h = fin s j d in
           rounds-mono f (fmaOf f x y z) (add f h z) _ _ (den x * den y * den z) _ _ (den h * den z) (mul-pos D (den-pos z)) (mul-pos (den-pos h) (den-pos z)) (fma-rounds f x y z X Y tt) (add-rounds f h z tt tt)
-          (add-fractions (plusProduct x y) (minusProduct x y) (den x * den y) (plusPart h) (minusPart h) (den h) (plusPart z) (minusPart z) (den z) (exact-below h F tt k))
+          (add-fractions (plusProduct x y) (minusProduct x y) (den x * den y) (plusPart h) (minusPart h) (den h) (plusPart z) (minusPart z) (den z) (rounds-lt f (mul f x y) h _ _ (den x * den y) _ _ (den h) D (den-pos h) (mul-rounds f x y X Y) (own-rounds f h F tt) k))
 
 -- ---- one value
-
--- a finite value of size zero is a zero
-nothing : (s : Bool) (m : ℕ) (e : ℤ) → m * up e ≤ 0 → T (eq (fin s m e) nought)
-nothing s m e h = le-antisymmetric (fin s m e) nought (AtMost→le (fin s m e) nought tt tt (rest s .0)) (AtMost→le nought (fin s m e) tt tt (rest s .1))
-  where
-    rest : (s : Bool) → AtMost (plusOf s (m * up e)) (minusOf s (m * up e)) (down e) 0 0 1 × AtMost 0 0 1 (plusOf s (m * up e)) (minusOf s (m * up e)) (down e)
-    rest true = (omega (arith, h), omega (arith, h))
-    rest false = (omega (arith, h), omega (arith, h))
-
--- equal values that are no zeros have one sign
-one-sign : (x y : Float) → T (eq x y) → (T (eq x nought) → ⊥) → negative x ≡ negative y
-unfolding negative
-one-sign nan y h n = absurd (unfold eq in h)
-one-sign (inf s) nan h n = absurd (unfold eq in h)
-one-sign (inf true) (inf true) h n = refl
-one-sign (inf true) (inf false) h n = absurd (unfold eq in h)
-one-sign (inf false) (inf true) h n = absurd (unfold eq in h)
-one-sign (inf false) (inf false) h n = refl
-one-sign (inf s) (fin t k d) h n = absurd (unfold eq in h)
-one-sign (fin s m e) nan h n = absurd (unfold eq in h)
-one-sign (fin s m e) (inf t) h n = absurd (unfold eq in h)
-one-sign (fin true m e) (fin true k d) h n = refl
-one-sign (fin true m e) (fin false k d) h n = absurd (n (nothing true m e (le-of-mul-le-mul-right {k = down d} (omega (arith, le→AtMost (fin false k d) (fin true m e) tt tt (eq-ge (fin true m e) (fin false k d) h))) (down-pos d))))
-one-sign (fin false m e) (fin true k d) h n = absurd (n (nothing false m e (le-of-mul-le-mul-right {k = down d} (omega (arith, le→AtMost (fin false m e) (fin true k d) tt tt (eq-le (fin false m e) (fin true k d) h))) (down-pos d))))
-one-sign (fin false m e) (fin false k d) h n = refl
 
 -- r is no more than the sum with what is below the product, and no less than the sum with what is above it
 enclosed : (f : Format) (x y z l h r : Float) → T (fits f l) → T (fits f h) → T (fits f r) → T (lt l (mul f x y)) → T (lt (mul f x y) h) → T (le r (add f l z)) → T (le (add f h z) r) → (T (eq r nought) → ⊥)
@@ -182,8 +130,7 @@ enclosed f x y z l h r L H R a b c d n =
     let w = fmaOf f x y z in
     let i = le-transitive r (add f l z) w c (lower f x y (v .0) (v .1) l z L a (le-number r (add f l z) c .1)) in
     let j = le-transitive w (add f h z) r (upper f x y (v .0) (v .1) h z H b (le-number (add f h z) r d .0)) d in
-    let e = le-antisymmetric r w i j in
-    equal f r w R (fma-fits f x y (v .0) (v .1) z) (is-true (eq r w) e) (one-sign r w e n)
+    equal-but-zero f r w R (fma-fits f x y (v .0) (v .1) z) (le-antisymmetric r w i j) n
 
 either : (a p b : Float) → cond (lt a p) (lt p b) (lt b p && lt p a) ≡ true → (T (lt a p) × T (lt p b)) ⊎ (T (lt b p) × T (lt p a))
 either a p b h = go (lt a p) (lt p b) (lt b p) (lt p a) h

@@ -16,8 +16,11 @@ use lib.Ieee.Exact.{HasValue, odd-sign, round-exact}
 use lib.Ieee.Bits.{ofBits-toBits, toBits-lt, nanBits-is, nanBits-above}
 use lib.Ieee.Nearest.{div-same}
 use lib.Ieee.Scale.{finite}
+use lib.Ieee.Positive.{den}
 use Rattle.number.specs.Units.{unitsOf}
 use Rattle.number.specs.Leaves.{negative}
+use Rattle.number.proofs.Fractions.{plusPart, minusPart}
+use Rattle.number.proofs.Rounded.{Rounds}
 use Rattle.number.proofs.Order.{holds, finite-number, not-nan, is-nan}
 
 -- ---- the size in units
@@ -315,3 +318,10 @@ round-self f s m e F =
     (round-exact f s (m * up e) (down e) (d .0) (d .1) (down-pos e) (d .3) (subst (λ (n : ℕ). n < 2 ^ (low f + suc (emax f))) (sym (d .2)) (fields-below f (b / hid f) t x h))
     (p .3 .1 ∙ ap (λ (n : ℕ). n * down e) (sym (d .2))))
     (refl, refl)
+
+-- a value of the format is its own rounding
+pub own-rounds : (f : Format) (x : Float) → T (fits f x) → T (finite x) → Rounds f x (plusPart x) (minusPart x) (den x)
+own-rounds f nan F X = absurd X
+own-rounds f (inf s) F X = absurd X
+own-rounds f (fin false m e) F X = inl (omega arith, sym (round-self f false m e F) ∙ ap (λ (n : ℕ). round f false n (down e)) (omega arith))
+own-rounds f (fin true m e) F X = inr (omega arith, sym (round-self f true m e F) ∙ ap (λ (n : ℕ). round f true n (down e)) (omega arith))

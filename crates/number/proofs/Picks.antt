@@ -1,11 +1,17 @@
--- Which of its operands `minimum` or `maximum` is, by the tests that tell: less, greater, equal with a sign, or a NaN on either side. Assumes nothing.
+-- When equal values are the same, and which of its operands `minimum` or `maximum` is, by the tests that tell: less, greater, equal with a sign, or a NaN on either side. Assumes nothing.
 use mathlib.Core.Path.{_≡_, refl, sym, ap, _∙_}
 use mathlib.Core.Bool.{Bool, true, false, not, _&&_, _||_, cond}
+use Prim.Native.Nat.{ℕ, _*_, _≤_}
+use native.Mathlib.Nat.{le-of-mul-le-mul-right}
+use native.Mathlib.Omega.{arith}
 use lib.Dec.{T}
-use lib.Ieee.{Float, Format, lt, eq, isNan, fits}
+use lib.IntN.{ℤ}
+use lib.Ieee.{Float, nan, inf, fin, Format, up, down, lt, eq, isNan, fits}
+use lib.Ieee.Fits.{down-pos}
 use lib.Ieee.Bits.{is-true, is-false}
 use Rattle.number.specs.Leaves.{negative, countsBelow, minimum, maximum}
-use Rattle.number.proofs.Order.{holds, fails, number, is-number, no-nan, lt-le, eq-le, eq-ge, eq-symmetric, le-number, lt-number, lt-not-le, unordered}
+use Rattle.number.proofs.Order.{holds, fails, number, nought, is-number, no-nan, lt-le, eq-le, eq-ge, eq-symmetric, le-number, lt-number, lt-not-le, le-antisymmetric, unordered}
+use Rattle.number.proofs.Fractions.{plusOf, minusOf, AtMost, le→AtMost, AtMost→le}
 use Rattle.number.proofs.Extremes.{→upTo, same-value}
 
 -- y counts first, or it does not
@@ -39,7 +45,7 @@ below-equal x y h = rw (not-less (lt x y) (λ l. lt-not-le x y l (eq-ge x y (hol
     not-less false n = refl
 
 -- equal values of one sign are the same
-pub equal : (f : Format) (x y : Float) → T (fits f x) → T (fits f y) → eq x y ≡ true → negative x ≡ negative y → x ≡ y
+equal : (f : Format) (x y : Float) → T (fits f x) → T (fits f y) → eq x y ≡ true → negative x ≡ negative y → x ≡ y
 equal f x y F G h s =
     let e = holds h in
     same-value f x y F G (eq-le x y e) (eq-ge x y e) (rw s (self (negative y))) (rw s (self (negative y)))
@@ -47,6 +53,34 @@ equal f x y F G h s =
     self : (b : Bool) → T (b || not b)
     self true = tt
     self false = tt
+
+-- a finite value of size zero is a zero
+nothing : (s : Bool) (m : ℕ) (e : ℤ) → m * up e ≤ 0 → T (eq (fin s m e) nought)
+nothing s m e h = le-antisymmetric (fin s m e) nought (AtMost→le (fin s m e) nought tt tt (rest s .0)) (AtMost→le nought (fin s m e) tt tt (rest s .1))
+  where
+    rest : (s : Bool) → AtMost (plusOf s (m * up e)) (minusOf s (m * up e)) (down e) 0 0 1 × AtMost 0 0 1 (plusOf s (m * up e)) (minusOf s (m * up e)) (down e)
+    rest true = (omega (arith, h), omega (arith, h))
+    rest false = (omega (arith, h), omega (arith, h))
+
+-- equal values that are no zeros have one sign
+one-sign : (x y : Float) → T (eq x y) → (T (eq x nought) → ⊥) → negative x ≡ negative y
+unfolding negative
+one-sign nan y h n = absurd (unfold eq in h)
+one-sign (inf s) nan h n = absurd (unfold eq in h)
+one-sign (inf true) (inf true) h n = refl
+one-sign (inf true) (inf false) h n = absurd (unfold eq in h)
+one-sign (inf false) (inf true) h n = absurd (unfold eq in h)
+one-sign (inf false) (inf false) h n = refl
+one-sign (inf s) (fin t k d) h n = absurd (unfold eq in h)
+one-sign (fin s m e) nan h n = absurd (unfold eq in h)
+one-sign (fin s m e) (inf t) h n = absurd (unfold eq in h)
+one-sign (fin true m e) (fin true k d) h n = refl
+one-sign (fin true m e) (fin false k d) h n = absurd (n (nothing true m e (le-of-mul-le-mul-right {k = down d} (omega (arith, le→AtMost (fin false k d) (fin true m e) tt tt (eq-ge (fin true m e) (fin false k d) h))) (down-pos d))))
+one-sign (fin false m e) (fin true k d) h n = absurd (n (nothing false m e (le-of-mul-le-mul-right {k = down d} (omega (arith, le→AtMost (fin false m e) (fin true k d) tt tt (eq-le (fin false m e) (fin true k d) h))) (down-pos d))))
+one-sign (fin false m e) (fin false k d) h n = refl
+
+pub equal-but-zero : (f : Format) (x y : Float) → T (fits f x) → T (fits f y) → T (eq x y) → (T (eq x nought) → ⊥) → x ≡ y
+equal-but-zero f x y F G e n = equal f x y F G (is-true (eq x y) e) (one-sign x y e n)
 
 equal-second : (f : Format) (x y : Float) (b : Bool) → T (fits f x) → T (fits f y) → eq x y ≡ true → (b ≡ false → negative x ≡ negative y) → y ≡ chosen x y b
 equal-second f x y true F G h s = let n = le-number x y (eq-le x y (holds h)) in second x y true (n .0) (n .1) refl

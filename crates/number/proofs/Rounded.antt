@@ -4,19 +4,20 @@ use mathlib.Core.Path.{_≡_, refl, sym, ap, _∙_}
 use mathlib.Core.Logic.{_⊎_, inl, inr}
 use mathlib.Core.Bool.{Bool, true, false, not, _&&_, Bool·beq, cond}
 use Prim.Native.Nat.{ℕ, zero, suc, _+_, _-_, _*_, _^_, _≤_, _<_}
-use native.Mathlib.Nat.{mul-comm, mul-le-mul-right, zero-mul, mul-sub, eq-of-mul-eq-mul-right, le-of-mul-le-mul-right}
+use native.Mathlib.Nat.{le-of-lt, mul-comm, mul-le-mul-right, zero-mul, mul-sub, eq-of-mul-eq-mul-right, le-of-mul-le-mul-right}
 use native.Mathlib.Omega.{arith}
 use borrow.Author.Tests.{ne-eqb}
 use lib.IntN.{ℤ}
 use lib.Dec.{T, ltb, eqb, ltb→lt, nltb→le}
 use lib.Pow.{pow-pos}
-use lib.Ieee.{Float, nan, inf, fin, Format, prec, emax, low, up, down, unlike, odd, units, round, neg, sum, add, mul, div, le, eq}
+use lib.Ieee.{Float, nan, inf, fin, Format, prec, emax, low, up, down, unlike, odd, units, round, neg, sum, add, mul, div, le, lt, eq, fits}
+use lib.Ieee.Fits.{round-fits}
 use lib.Ieee.Exact.{HasValue, round-exact}
 use lib.Ieee.Order.{round-mono}
 use lib.Ieee.Scale.{finite}
 use lib.Ieee.Positive.{den}
 use Rattle.number.proofs.Fractions.{plusOf, minusOf, plus-times, minus-times, plusPart, minusPart, AtMost, AtMost→le}
-use Rattle.number.proofs.Order.{nought, signed, below-zero, le-antisymmetric, le-neg}
+use Rattle.number.proofs.Order.{nought, signed, below-zero, less-or-not, lt-not-le, le-antisymmetric, le-neg}
 
 -- ---- the sign of what is rounded
 
@@ -80,6 +81,10 @@ round-zero f s d D = round-exact f s 0 d 0 0 D (pow-pos (prec f)) (pow-pos (low 
 abbrev pub Rounds : Format → Float → ℕ → ℕ → ℕ → Type 0
 Rounds f x p n d = ((n ≤ p) × (x ≡ round f false (p - n) d)) ⊎ ((p ≤ n) × (x ≡ round f true (n - p) d))
 
+pub rounds-fits : (f : Format) (x : Float) (p n d : ℕ) → Rounds f x p n d → T (fits f x)
+rounds-fits f x p n d (inl (a, e)) = rw e (round-fits f false (p - n) d)
+rounds-fits f x p n d (inr (a, e)) = rw e (round-fits f true (n - p) d)
+
 pub sub-mul : (a b c : ℕ) → (a - b) * c ≡ a * c - b * c
 sub-mul a b c = mul-comm (a - b) c ∙ mul-sub c a b ∙ ap (λ (z : ℕ). z - c * b) (mul-comm c a) ∙ ap (λ (z : ℕ). a * c - z) (mul-comm c b)
 
@@ -119,6 +124,13 @@ rounds-mono f x y p n d p' n' d' D D' (inr (a, e)) (inl (b, g)) h =
 rounds-mono f x y p n d p' n' d' D D' (inr (a, e)) (inr (b, g)) h =
     rw (e, g, round-neg f false (n - p) d, round-neg f false (n' - p') d')
     (le-neg (round f false (n' - p') d') (round f false (n - p) d) (round-mono f (n' - p') d' (n - p) d D' D (differences n' p' d' n p d a (omega arith))))
+
+-- and where rounded values are strictly in order, so are their fractions
+pub rounds-lt : (f : Format) (x y : Float) (p n d p' n' d' : ℕ) → 0 < d → 0 < d' → Rounds f x p n d → Rounds f y p' n' d' → T (lt x y) → AtMost p n d p' n' d'
+rounds-lt f x y p n d p' n' d' D D' r r' h = elim (less-or-not (p' * d + n * d') (p * d' + n' * d)) [
+  | inl b ↦ absurd (lt-not-le x y h (rounds-mono f y x p' n' d' p n d D' D r' r (le-of-lt b)))
+  | inr g ↦ g
+]
 
 -- ---- the sum, the product and the quotient of finite values
 
