@@ -13,6 +13,7 @@
 //! | threads=1 | they change the time only, not what is tried (with counts) |
 //! | broken=NAME | puts a slip into the expected side: the run must then find differences; `broken=list` names them |
 //! | broken=each | tries each slip, a minute at most, and fails if the comparison does not notice one |
+
 #![allow(unstable_name_collisions)] // next_down is stable from Rust 1.86 on
 
 mod case;

@@ -3,8 +3,8 @@
 //! `host/run record FILE [seed=N]` draws inputs from the differential run's generators until each refusal number and each way of answering has its share, and
 //! writes them to FILE. An answer follows from document 01's rules, and in the domain the original has confirmed it: but for the sign of a zero and for a NaN,
 //! which 01 fixes, each double is the original's. The library is not asked. It prints how many cases of each kind there are, and fails if a kind has none.
-#![allow(unstable_name_collisions)] // next_down is stable from Rust 1.86 on
 
+#![allow(unstable_name_collisions)] // next_down is stable from Rust 1.86 on
 #![allow(dead_code)] // the modules of the differential run hold more than is used here
 
 #[path = "../differential/case.rs"]

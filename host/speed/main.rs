@@ -7,6 +7,7 @@
 //!
 //! Instructions are counted by running this program under valgrind, or under the command that COUNTER names (on Arm: qemu-x86_64 with a plugin that counts and
 //! prints a line "instructions N"), each operation with one turn and with `TURNS` more: the difference is what the turns took. From a leaf's calls the loop around them is taken off.
+
 #![allow(unstable_name_collisions)] // next_down is stable from Rust 1.86 on
 
 mod inputs;
