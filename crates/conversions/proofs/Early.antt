@@ -11,7 +11,7 @@ use Rattle.sampling.specs.Samples.{timedNo}
 use Rattle.sampling.specs.List.{samplesNo, listNo}
 use Rattle.sampling.specs.Grid.{gridNo}
 use Rattle.sampling.proofs.Walks.{timed}
-use Rattle.interpolation.proofs.Outcomes.{or-stop}
+use Rattle.refusals.proofs.Outcomes.{or-stop}
 use Rattle.byte_lists.specs.Bytes.{doublesOf}
 use Rattle.conversions.specs.Stations.{lengthsNo}
 use Rattle.byte_lists.proofs.Fronts.{length-doubles}

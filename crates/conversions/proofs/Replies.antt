@@ -13,14 +13,15 @@ use lib.Seq.{length-take-le}
 use lib.Ieee.{Float, nan, lt}
 use lib.Ieee.Scale.{finite}
 use Rattle.loops.specs.Upto.{filled, at}
-use Rattle.loops.specs.Refusals.{unless, _or_, onlyIf}
-use Rattle.loops.proofs.Refusals.{only-done, only-kept, or-assoc, or-none, unless-none}
+use Rattle.refusals.specs.Refusals.{unless, _or_, onlyIf}
+use Rattle.refusals.proofs.Chains.{only-done, only-kept, or-assoc, or-none, unless-none}
 use Rattle.loops.proofs.Counting.{and-left, and-right}
 use Rattle.loops.proofs.Filling.{fill-none, fill-same, filled-at, length-filled}
-use Rattle.interpolation.specs.Outcome.{answered, Outcome}
+use Rattle.refusals.specs.Outcome.{answered, Outcome}
 use Rattle.sampling.specs.Samples.{countsOf}
-use Rattle.interpolation.specs.Profile.{everyEntry, everyPair, profileNo}
-use Rattle.interpolation.proofs.Outcomes.{or-stop}
+use Rattle.loops.specs.Entries.{everyEntry, everyPair}
+use Rattle.interpolation.specs.Profile.{profileNo}
+use Rattle.refusals.proofs.Outcomes.{or-stop}
 use Rattle.sampling.specs.declared.samples.Counts.{Counts}
 use Rattle.sampling.specs.declared.samples.Sampled.{Sampled}
 use Rattle.sampling.specs.declared.samples.Sampled.the-variants.{Done, Refused}

@@ -7,10 +7,10 @@ use lib.Dec.{eqb, leb}
 use lib.ListN.{length}
 use lib.Ieee.{Float}
 use Rattle.loops.specs.Upto.{filled, at}
-use Rattle.loops.specs.Refusals.{unless, _or_, onlyIf}
+use Rattle.refusals.specs.Refusals.{unless, _or_, onlyIf}
 use Rattle.interpolation.specs.Slopes.{slope, slopesNo}
 use Rattle.interpolation.specs.Times.{timeAt, timesNo}
-use Rattle.interpolation.specs.Outcome.{Outcome}
+use Rattle.refusals.specs.Outcome.{Outcome}
 use Rattle.sampling.specs.Samples.{stationAt, countsOf}
 use Rattle.sampling.specs.List.{listNo}
 use Rattle.sampling.specs.Grid.{gridTime, gridSize, gridNo, gridEntry, gridEntries}

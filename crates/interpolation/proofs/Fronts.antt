@@ -9,7 +9,7 @@ use lib.Seq.{take-at, length-take-le}
 use lib.Ieee.{Float}
 use Rattle.loops.specs.Upto.{every, table, filled, at}
 use Rattle.loops.proofs.Filling.{length-table, table-at, fill-same}
-use Rattle.interpolation.specs.Profile.{everyEntry}
+use Rattle.loops.specs.Entries.{everyEntry}
 
 every-same : (p q : ℕ → Bool) (n : ℕ) → ((k : ℕ) → k < n → p k ≡ q k) → every p n ≡ every q n
 unfolding every

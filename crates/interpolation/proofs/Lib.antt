@@ -1,4 +1,3 @@
-pub mod Outcomes
 pub mod Fronts
 pub mod Profiles
 pub mod Timing

@@ -9,10 +9,11 @@ use lib.Dec.{leb, eqb}
 use lib.ListN.{length}
 use lib.Ieee.{Float, lt}
 use lib.Ieee.Scale.{finite}
-use Rattle.loops.specs.Refusals.{unless, _or_}
+use Rattle.refusals.specs.Refusals.{unless, _or_}
 use Rattle.loops.proofs.Counting.{and-left, and-right}
-use Rattle.loops.proofs.Refusals.{or-none, unless-none}
-use Rattle.interpolation.specs.Profile.{everyEntry, everyPair, profileNo}
+use Rattle.refusals.proofs.Chains.{or-none, unless-none}
+use Rattle.loops.specs.Entries.{everyEntry, everyPair}
+use Rattle.interpolation.specs.Profile.{profileNo}
 
 pub record Shaped (s a : List Float) : Type 0 where
   pub low : 2 ≤ length s

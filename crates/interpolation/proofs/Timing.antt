@@ -11,8 +11,8 @@ use lib.Ieee.{Float, binary64, add}
 use lib.Ieee.Scale.{finite}
 use Rattle.roots.specs.Root.{sqrtOf}
 use Rattle.loops.specs.Upto.{at}
-use Rattle.loops.specs.Refusals.{unless, _or_}
-use Rattle.loops.proofs.Refusals.{or-none, unless-none}
+use Rattle.refusals.specs.Refusals.{unless, _or_}
+use Rattle.refusals.proofs.Chains.{or-none, unless-none}
 use Rattle.interpolation.specs.Profile.{profileNo, speedNo}
 use Rattle.interpolation.specs.Times.{leg, legTime, timeAt, startNo}
 use Rattle.interpolation.proofs.Profiles.{Shaped, shaped}

@@ -1,4 +1,3 @@
-pub mod Outcome
 pub mod Profile
 pub mod Slopes
 pub mod Times

@@ -7,19 +7,11 @@ use lib.IntN.{pos}
 use lib.ListN.{length}
 use lib.Ieee.{Float, fin, lt, eq}
 use lib.Ieee.Scale.{finite}
-use Rattle.loops.specs.Upto.{every, at}
-use Rattle.loops.specs.Refusals.{unless, _or_}
+use Rattle.loops.specs.Entries.{everyEntry, everyPair}
+use Rattle.refusals.specs.Refusals.{unless, _or_}
 
 abbrev pub zeroF : Float
 zeroF = fin false 0 (pos 0)
-
--- every entry has p
-unfoldable pub everyEntry : (Float → Bool) → List Float → Bool
-everyEntry p x = every (λ k. p (at x k)) (length x)
-
--- every two neighbours have p
-unfoldable pub everyPair : (Float → Float → Bool) → List Float → Bool
-everyPair p x = every (λ k. p (at x k) (at x (k + 1))) (length x - 1)
 
 -- minus zero is not below zero
 unfoldable pub notBelowZero : Float → Bool

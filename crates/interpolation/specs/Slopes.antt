@@ -7,8 +7,8 @@ use lib.IntN.{negsuc}
 use lib.ListN.{length}
 use lib.Ieee.{Float, fin, binary64, sub, mul, div}
 use Rattle.loops.specs.Upto.{at}
-use Rattle.loops.specs.Refusals.{unless, _or_}
-use Rattle.interpolation.specs.Outcome.{Outcome}
+use Rattle.refusals.specs.Refusals.{unless, _or_}
+use Rattle.refusals.specs.Outcome.{Outcome}
 use Rattle.interpolation.specs.Profile.{profileNo}
 use Rattle.interpolation.specs.declared.slopes.Sloped.{Sloped}
 use Rattle.interpolation.specs.declared.slopes.Sloped.the-variants.{Done, Refused}

@@ -9,8 +9,8 @@ use lib.Ieee.{Float, fin, binary64, add, sub, mul, div}
 use lib.Ieee.Scale.{finite}
 use Rattle.roots.specs.Root.{sqrtOf}
 use Rattle.loops.specs.Upto.{every, at}
-use Rattle.loops.specs.Refusals.{unless, _or_}
-use Rattle.interpolation.specs.Outcome.{Outcome}
+use Rattle.refusals.specs.Refusals.{unless, _or_}
+use Rattle.refusals.specs.Outcome.{Outcome}
 use Rattle.interpolation.specs.Profile.{profileNo, speedNo}
 use Rattle.interpolation.specs.declared.times.Timed.{Timed}
 use Rattle.interpolation.specs.declared.times.Timed.the-variants.{Done, Refused}

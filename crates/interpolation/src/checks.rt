@@ -1,12 +1,13 @@
 // The checks of a profile, 11 to 15, 17 and 18, and what they are made of. Lengths come first, so that no list over its limit is walked.
-use loops::chain::or;
-use loops::chain::unless;
 use number::size;
+use refusals::chain::or;
+use refusals::chain::unless;
 ghost use mathlib.Core.Path.{_≡_};
 ghost use lib.Ieee.{lt};
 ghost use lib.Ieee.Scale.{finite};
-ghost use Rattle.loops.specs.Refusals.{unless, _or_};
-ghost use Rattle.interpolation.specs.Profile.{everyEntry, everyPair, profileNo, speedNo};
+ghost use Rattle.refusals.specs.Refusals.{unless, _or_};
+ghost use Rattle.loops.specs.Entries.{everyEntry, everyPair};
+ghost use Rattle.interpolation.specs.Profile.{profileNo, speedNo};
 ghost use Rattle.interpolation.specs.Parts.{entryTest, pairTest};
 
 // What is asked of each entry of a list ..

@@ -1,6 +1,6 @@
 // a to b: half the slope of the squared speed over each pair of stations.
 use crate::checks;
-use loops::chain::unless;
+use refusals::chain::unless;
 ghost use mathlib.Core.Path.{_≡_};
 ghost use Prim.Native.Nat.{_+_, _-_, _<_, _≤_};
 ghost use lib.ListN.{length};

@@ -1,15 +1,15 @@
 // s to t: the time at each station, added up from the left.
 use crate::checks;
 use crate::checks::Entry;
-use loops::chain::or;
-use loops::chain::unless;
 use number::size;
+use refusals::chain::or;
+use refusals::chain::unless;
 use roots::square_root;
 ghost use mathlib.Core.Path.{_≡_};
 ghost use Prim.Native.Nat.{_+_, _-_, _<_, _≤_};
 ghost use lib.ListN.{length};
 ghost use Rattle.loops.specs.Upto.{filled, at};
-ghost use Rattle.loops.specs.Refusals.{unless};
+ghost use Rattle.refusals.specs.Refusals.{unless};
 ghost use Rattle.interpolation.specs.Times.{leg, timeAt, timesFinite, startNo, Timing, Times};
 
 // Done holds the last time.

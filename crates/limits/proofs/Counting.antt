@@ -10,7 +10,7 @@ use Rattle.number.proofs.Order.{holds, fails, number, finite-number, lt-or-le}
 use Rattle.number.proofs.Monotone.{mul-finite}
 use Rattle.number.specs.Leaves.{maximum}
 use Rattle.loops.specs.Rows.{Row, fold, any, all}
-use Rattle.limits.specs.Doubles.{zero}
+use Rattle.number.specs.Doubles.{zero}
 use Rattle.limits.specs.Row.{norm, empty, inv, rawTol, numbersFinite, normalized, raw, rawNormalized, allWithin, admits}
 use Rattle.limits.specs.Certificate.{between, passes, worseNormalized, worseRaw, certificate}
 use Rattle.limits.specs.Row.{unfit, unmeetable}

@@ -7,7 +7,7 @@ use lib.Ieee.Fits.{and-i, and-l, and-r}
 use lib.Ieee.Scale.{finite}
 use Rattle.number.proofs.Order.{no-more}
 use Rattle.number.proofs.Monotone.{div-finite}
-use Rattle.limits.specs.Doubles.{zero, one, _⊘_}
+use Rattle.number.specs.Doubles.{zero, one, _⊘_}
 use Rattle.limits.specs.Row.{fourFinite, allWithin}
 use Rattle.limits.specs.Steps.{within, threeWithin}
 

@@ -6,7 +6,7 @@ use lib.Ieee.{Float, nan, inf, fin, lt, eq, isNan, ofBits}
 use Rattle.number.specs.Leaves.{negative, countsBelow, maximum}
 use Rattle.number.proofs.Order.{holds, number, signed, below-zero, lt-number, lt-not-le}
 use Rattle.number.proofs.Picks.{maximum-more}
-use Rattle.limits.specs.Doubles.{zero}
+use Rattle.number.specs.Doubles.{zero}
 use Rattle.limits.specs.Steps.{fromZero}
 
 above : (w : Float) → T (fromZero w) → T (signed false w)

@@ -1,7 +1,7 @@
 -- The bounds of a station. 01: "lower = max(current lower, +0); upper, the cap, = min(current upper, current path cap). For the previous station likewise".
 use lib.Ieee.{Float}
 use Rattle.number.specs.Leaves.{minimum, maximum}
-use Rattle.limits.specs.Doubles.{zero}
+use Rattle.number.specs.Doubles.{zero}
 use Rattle.limits.specs.declared.request.Interval.{Interval}
 use Rattle.limits.specs.declared.request.Request.{Request}
 

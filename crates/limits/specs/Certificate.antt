@@ -5,7 +5,7 @@ use lib.Ieee.{Float, le}
 use lib.Ieee.Scale.{finite}
 use Rattle.number.specs.Leaves.{maximum}
 use Rattle.loops.specs.Rows.{Row, fold, all}
-use Rattle.limits.specs.Doubles.{zero}
+use Rattle.number.specs.Doubles.{zero}
 use Rattle.limits.specs.Bounds.{lower, upper}
 use Rattle.limits.specs.Row.{empty, normalized, raw, rawNormalized, admits}
 use Rattle.limits.specs.declared.request.Request.{Request}

@@ -1,5 +1,4 @@
 -- Document 01, "Recovery": bounds, certificate and projection, in its order.
-pub mod Doubles
 pub mod Bounds
 pub mod Row
 pub mod Certificate

@@ -5,7 +5,7 @@ use lib.Ieee.{Float, lt}
 use lib.Ieee.Scale.{finite}
 use Rattle.number.specs.Leaves.{minimum, maximum}
 use Rattle.loops.specs.Rows.{Row, fold}
-use Rattle.limits.specs.Doubles.{zero, _⊕_, _⊖_, _⊗_, _⊘_}
+use Rattle.number.specs.Doubles.{zero, _⊕_, _⊖_, _⊗_, _⊘_}
 use Rattle.limits.specs.Bounds.{lower, upper}
 use Rattle.limits.specs.Row.{empty, inv, rawTol}
 use Rattle.limits.specs.declared.request.Request.{Request}

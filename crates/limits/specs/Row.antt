@@ -6,7 +6,7 @@ use lib.Ieee.Scale.{finite}
 use Rattle.number.specs.Leaves.{maximum, absolute}
 use Rattle.roots.specs.Hypot.{hypotOf}
 use Rattle.loops.specs.Rows.{Row}
-use Rattle.limits.specs.Doubles.{zero, one, _⊕_, _⊖_, _⊗_, _⊘_}
+use Rattle.number.specs.Doubles.{zero, one, _⊕_, _⊖_, _⊗_, _⊘_}
 use Rattle.limits.specs.declared.request.Request.{Request}
 
 -- ---- what depends on the row and the tolerance alone

@@ -6,7 +6,7 @@ use lib.Ieee.{Float, inf, lt, le, isNan}
 use lib.Ieee.Scale.{finite}
 use Rattle.number.specs.Leaves.{minimum, maximum, negative}
 use Rattle.loops.specs.Rows.{fold}
-use Rattle.limits.specs.Doubles.{zero, one, _⊕_, _⊖_, _⊗_, _⊘_}
+use Rattle.number.specs.Doubles.{zero, one, _⊕_, _⊖_, _⊗_, _⊘_}
 use Rattle.limits.specs.Bounds.{lower, upper}
 use Rattle.limits.specs.Certificate.{between}
 use Rattle.limits.specs.Projection.{cutBy, flatBy}

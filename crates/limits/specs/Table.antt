@@ -6,7 +6,7 @@ use lib.ListN.{length}
 use lib.Ieee.{Float}
 use Rattle.loops.specs.Rows.{Row}
 use Rattle.loops.specs.Upto.{at}
-use Rattle.limits.specs.Doubles.{_⊗_}
+use Rattle.number.specs.Doubles.{_⊗_}
 use Rattle.limits.specs.Row.{norm, empty, inv, rawTol}
 use Rattle.limits.specs.declared.request.Request.{Request}
 use Rattle.limits.specs.declared.table.Block.{Block}

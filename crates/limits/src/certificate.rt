@@ -8,7 +8,7 @@ ghost use mathlib.Core.Path.{_≡_};
 ghost use mathlib.Core.Bool.{true};
 ghost use Rattle.number.specs.Leaves.{maximum};
 ghost use Rattle.loops.specs.Rows.{fold};
-ghost use Rattle.limits.specs.Doubles.{zero};
+ghost use Rattle.number.specs.Doubles.{zero};
 ghost use Rattle.limits.specs.Certificate.{between};
 ghost use Rattle.limits.specs.Table.{blocksOf};
 ghost use Rattle.limits.specs.Steps.{within, threeWithin, fromZero, judged, Worse, countedBlock, certificateOn};

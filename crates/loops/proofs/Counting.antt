@@ -45,14 +45,6 @@ every-none p = refl
 
 -- ---- count
 
-pub count-none : (p : ℕ → Bool) → count p 0 ≡ 0
-unfolding count
-count-none p = refl
-
-pub count-turn : (p : ℕ → Bool) (j m v : ℕ) → m ≡ count p j → v ≡ cond (p j) 1 0 → m + v ≡ count p (j + 1)
-unfolding count
-count-turn p j m v e g = rw (e, g, add-one)
-
 one-at-most : (b : Bool) → cond b 1 0 ≤ 1
 one-at-most true = omega arith
 one-at-most false = omega arith

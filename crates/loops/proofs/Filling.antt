@@ -57,11 +57,6 @@ fill-on f n m old l k h e g = g ∙ ap (filled f m) e ∙ fill-again f n m old h
 pub fill-stands : {A : Type 0} (f : ℕ → A) (n : ℕ) (old l : List A) → l ≡ filled f n old → l ≡ filled f n l
 fill-stands f n old l e = e ∙ sym (fill-again f n n old (omega arith)) ∙ ap (filled f n) (sym e)
 
--- a list that is filled to its end
-pub fill-all : {A : Type 0} (f : ℕ → A) (n : ℕ) (old : List A) → length old ≤ n → filled f n old ≡ table f n
-unfolding filled
-fill-all f n old h = rw (drop-of-length-le old h) (append-nil (table f n))
-
 table-same : {A : Type 0} (f g : ℕ → A) (n : ℕ) → ((k : ℕ) → k < n → f k ≡ g k) → table f n ≡ table g n
 unfolding table
 table-same f g zero h = refl

@@ -1,4 +1,3 @@
 pub mod Counting
 pub mod Filling
-pub mod Refusals
 pub mod RowScans

@@ -36,15 +36,3 @@ fold-at f s l i h = rw (rows-at l i h)
 pub fold-end : {S : Type 0} (f : S → Row → S) (s : S) (l : List Float) (i : ℕ) → length l - i < 3 → fold f s (rowsOf (drop i l)) ≡ s
 unfolding fold
 fold-end f s l i h = rw (rows-end l i h)
-
-pub any-found : (p : Row → Bool) (l : List Float) (i : ℕ) → i + 3 ≤ length l → p (rowAt l i) ≡ true → any p (rowsOf (drop i l)) ≡ true
-unfolding any
-any-found p l i h e = rw (rows-at l i h, e)
-
-pub any-on : (p : Row → Bool) (l : List Float) (i : ℕ) → i + 3 ≤ length l → p (rowAt l i) ≡ false → any p (rowsOf (drop i l)) ≡ any p (rowsOf (drop (i + 3) l))
-unfolding any
-any-on p l i h e = rw (rows-at l i h, e)
-
-pub any-end : (p : Row → Bool) (l : List Float) (i : ℕ) → length l - i < 3 → any p (rowsOf (drop i l)) ≡ false
-unfolding any
-any-end p l i h = rw (rows-end l i h)

@@ -1,3 +1,3 @@
 pub mod Upto
-pub mod Refusals
+pub mod Entries
 pub mod Rows

@@ -1,2 +1,1 @@
-// What a counting loop tests and fills, rows in threes, and refusals in order: definitions and laws that the proofs of loops cite, and two functions.
-pub mod chain;
+// What a counting loop tests and fills: definitions and laws that the proofs of loops cite. No code, since the language has no generics: the loops are written where they are used.

@@ -6,8 +6,8 @@ use mathlib.Core.List.{List}
 use lib.Dec.{eqb}
 use lib.Ieee.{Float}
 use Rattle.loops.specs.Upto.{filled}
-use Rattle.loops.specs.Refusals.{onlyIf}
-use Rattle.interpolation.specs.Outcome.{answered}
+use Rattle.refusals.specs.Refusals.{onlyIf}
+use Rattle.refusals.specs.Outcome.{answered}
 use Rattle.sampling.specs.declared.samples.Counts.{Counts}
 use Rattle.sampling.specs.declared.samples.Sampled.{Sampled}
 use Rattle.sampling.specs.declared.samples.Sampled.the-variants.{Done, Refused}

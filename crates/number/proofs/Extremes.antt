@@ -174,12 +174,6 @@ maximum-lattice f =
     (lesser-lattice (Fits f) (nanLast (λ a b. upTo b a))
     (nan-last f (λ a b. upTo b a) (λ x y X Y. upTo-total y x Y X) (λ x y z X Y Z h k. upTo-trans z y x Z Y X k h) (λ x y X Y F G h k. upTo-anti f x y X Y F G k h)))
 
-pub minimum-same : (f : Format) (b : Float) (l k : List Float) → T (fits f b) → All (Fits f) l → All (Fits f) k → Within l k → Within k l → foldl minimum b l ≡ foldl minimum b k
-minimum-same f = fold-same (Fits f) minimum (minimum-lattice f)
-
-pub maximum-same : (f : Format) (b : Float) (l k : List Float) → T (fits f b) → All (Fits f) l → All (Fits f) k → Within l k → Within k l → foldl maximum b l ≡ foldl maximum b k
-maximum-same f = fold-same (Fits f) maximum (maximum-lattice f)
-
 -- the greater is no less than the first, which is a number
 pub maximum-ge : (x y : Float) → T (number x) → T (le x (maximum x y))
 unfolding maximum countsBelow

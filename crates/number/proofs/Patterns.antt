@@ -130,11 +130,6 @@ sign-test : (f : Format) (s : Bool) (b : ℕ) → b < top f → leb (top f) (con
 sign-test f true b l = le-leb (top f) (top f + b) (le-add-right (top f) b)
 sign-test f false b l = ap (leb (top f)) (zero-add b) ∙ lt-leb (top f) b l
 
-pub nan-signed : (f : Format) (s : Bool) (b : ℕ) → ones f * hid f < b → b < top f → ofBits f (cond s (top f) 0 + b) ≡ nan
-nan-signed f s b h l =
-    let n = cond s (top f) 0 + b in
-    is-nan (ofBits f n) (holds (sym (nanBits-is f n) ∙ nanBits-above f n ∙ ap (ltb (ones f * hid f)) (sign-off f s b l) ∙ lt-ltb (ones f * hid f) b h))
-
 pub not-nan-bits : (f : Format) (n : ℕ) → n % top f ≤ ones f * hid f → T (not (nanBits f n))
 not-nan-bits f n h = rw (nanBits-above f n, le-ltb (ones f * hid f) (n % top f) h) tt
 

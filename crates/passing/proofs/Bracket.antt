@@ -11,7 +11,7 @@ use lib.Ieee.Positive.{between}
 use Rattle.number.proofs.Fractions.{or-l, or-r, or-split}
 use Rattle.number.proofs.Order.{le-number, lt-le, eq-le, eq-ge, le-transitive, le-antisymmetric, lt-not-le, lt-or-le}
 use Rattle.loops.specs.Rows.{Row}
-use Rattle.limits.specs.Doubles as doubles
+use Rattle.number.specs.Doubles as doubles
 use Rattle.limits.specs.Certificate.{passes, certificate}
 use Rattle.topp2_ra.specs.Search.{middle, stops, replaced, halved, halvings}
 use Rattle.limits.specs.declared.request.Request.{Request}

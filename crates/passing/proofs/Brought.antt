@@ -11,8 +11,8 @@ use Rattle.number.proofs.Order.{number, le-number, le-transitive}
 use Rattle.number.proofs.Folds.{All}
 use Rattle.number.proofs.Extremes.{Fits, minimum-lattice, maximum-lattice, maximum-ge}
 use Rattle.loops.specs.Rows.{Row}
-use Rattle.limits.specs.Doubles as doubles
-use Rattle.limits.specs.Doubles.{_⊘_}
+use Rattle.number.specs.Doubles as doubles
+use Rattle.number.specs.Doubles.{_⊘_}
 use Rattle.limits.specs.Bounds.{lower, upper}
 use Rattle.limits.specs.Row.{empty, normalized, raw, rawNormalized}
 use Rattle.limits.specs.Certificate.{worseNormalized, worseRaw}

@@ -8,7 +8,7 @@ use Rattle.number.specs.Leaves.{minimum, maximum}
 use Rattle.number.proofs.Folds.{Within}
 use Rattle.number.proofs.Extremes.{Fits, minimum-lattice, maximum-lattice}
 use Rattle.loops.specs.Rows.{Row, rowsOf}
-use Rattle.limits.specs.Doubles as doubles
+use Rattle.number.specs.Doubles as doubles
 use Rattle.limits.specs.Bounds.{lower, upper}
 use Rattle.limits.specs.Row.{admits}
 use Rattle.limits.specs.Certificate.{passes, worseNormalized, worseRaw, certificate}

@@ -11,17 +11,18 @@ use lib.ListN.{length, set}
 use lib.Ieee.{Float, lt, le}
 use lib.Ieee.Scale.{finite}
 use Rattle.loops.specs.Upto.{filled, at}
-use Rattle.loops.specs.Refusals.{unless, _or_}
+use Rattle.refusals.specs.Refusals.{unless, _or_}
 use Rattle.loops.proofs.Filling.{fill-turn, fill-same, filled-at}
-use Rattle.loops.proofs.Refusals.{or-none, unless-none}
-use Rattle.interpolation.specs.Profile.{zeroF, everyEntry, everyPair}
+use Rattle.refusals.proofs.Chains.{or-none, unless-none}
+use Rattle.loops.specs.Entries.{everyEntry, everyPair}
+use Rattle.interpolation.specs.Profile.{zeroF}
 use Rattle.sampling.specs.Samples.{countsOf, timedNo}
 use Rattle.sampling.specs.List.{samplesNo, listNo}
 use Rattle.sampling.specs.Grid.{lastOf, gridSize, gridTime, finalAdded, evenNo, gridNo, gridStation, gridEntry, gridEntries, Gridded}
 use Rattle.sampling.specs.Parts.{oneMore, Ended}
 use Rattle.sampling.specs.declared.samples.Counts.{Counts}
 use Rattle.sampling.specs.declared.samples.Sampled.the-variants.{Done}
-use Rattle.interpolation.proofs.Outcomes.{succeeds}
+use Rattle.refusals.proofs.Outcomes.{succeeds}
 use Rattle.sampling.proofs.Walks.{timed}
 
 sampled : (x : List Float) (room : ℕ) → samplesNo x room ≡ 0 → (length x ≤ 65536) × (length x ≤ room)

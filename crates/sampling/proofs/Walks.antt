@@ -14,10 +14,11 @@ use lib.Ieee.Bits.{is-true}
 use lib.Ieee.Scale.{finite}
 use Rattle.number.proofs.Order.{holds, fails, lt-le-transitive, le-lt-transitive}
 use Rattle.loops.specs.Upto.{count, at}
-use Rattle.loops.specs.Refusals.{unless, _or_}
+use Rattle.refusals.specs.Refusals.{unless, _or_}
 use Rattle.loops.proofs.Counting.{and-left, and-right, count-le, count-more, count-stretch, first-is, first-before, first-le}
-use Rattle.loops.proofs.Refusals.{or-none, unless-none}
-use Rattle.interpolation.specs.Profile.{everyEntry, everyPair, profileNo, speedNo}
+use Rattle.refusals.proofs.Chains.{or-none, unless-none}
+use Rattle.loops.specs.Entries.{everyEntry, everyPair}
+use Rattle.interpolation.specs.Profile.{profileNo, speedNo}
 use Rattle.sampling.specs.Samples.{intervalOf, inverse2order, stationIn, isBefore, isInside, isPast, stationAt, countsOf, timedNo}
 use Rattle.sampling.specs.Parts.{Reaches, pieceAt, Standing, stays, Bounded, oneMore, moreInside, tallied}
 use Rattle.sampling.specs.declared.interval.Walk.{Walk}

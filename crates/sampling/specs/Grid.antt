@@ -9,8 +9,8 @@ use lib.Ieee.{Float, binary64, add, sub, mul, div, lt, le, ofInt}
 use lib.Ieee.Scale.{finite}
 use Rattle.number.specs.Leaves.{wholePart}
 use Rattle.loops.specs.Upto.{at}
-use Rattle.loops.specs.Refusals.{unless, _or_}
-use Rattle.interpolation.specs.Outcome.{Outcome}
+use Rattle.refusals.specs.Refusals.{unless, _or_}
+use Rattle.refusals.specs.Outcome.{Outcome}
 use Rattle.interpolation.specs.Profile.{zeroF}
 use Rattle.sampling.specs.Samples.{stationAt, countsOf, timedNo}
 use Rattle.sampling.specs.declared.samples.Sampled.{Sampled}

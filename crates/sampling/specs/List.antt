@@ -6,9 +6,9 @@ use lib.ListN.{length}
 use lib.Ieee.{Float, lt}
 use lib.Ieee.Scale.{finite}
 use Rattle.loops.specs.Upto.{at}
-use Rattle.loops.specs.Refusals.{unless, _or_}
-use Rattle.interpolation.specs.Outcome.{Outcome}
-use Rattle.interpolation.specs.Profile.{everyEntry, everyPair}
+use Rattle.refusals.specs.Refusals.{unless, _or_}
+use Rattle.refusals.specs.Outcome.{Outcome}
+use Rattle.loops.specs.Entries.{everyEntry, everyPair}
 use Rattle.sampling.specs.Samples.{stationAt, countsOf, timedNo}
 use Rattle.sampling.specs.declared.samples.Sampled.{Sampled}
 use Rattle.sampling.specs.declared.samples.Sampled.the-variants.{Done, Refused}

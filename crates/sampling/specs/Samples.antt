@@ -10,8 +10,9 @@ use lib.Ieee.Scale.{finite}
 use Rattle.roots.specs.Root.{sqrtOf}
 use Rattle.fused.specs.Fused.{fmaOf}
 use Rattle.loops.specs.Upto.{count, first, at}
-use Rattle.loops.specs.Refusals.{unless, _or_}
-use Rattle.interpolation.specs.Profile.{everyEntry, everyPair, profileNo, speedNo}
+use Rattle.refusals.specs.Refusals.{unless, _or_}
+use Rattle.loops.specs.Entries.{everyEntry, everyPair}
+use Rattle.interpolation.specs.Profile.{profileNo, speedNo}
 use Rattle.sampling.specs.declared.samples.Counts.{Counts}
 
 abbrev pub quarter : Float

@@ -3,8 +3,8 @@ use crate::samples;
 use crate::samples::Sampled;
 use crate::samples::Source;
 use interpolation::checks;
-use loops::chain::or;
-use loops::chain::unless;
+use refusals::chain::or;
+use refusals::chain::unless;
 ghost use mathlib.Core.Path.{_≡_};
 ghost use Rattle.sampling.specs.List.{samplesNo, listNo, Listed};
 

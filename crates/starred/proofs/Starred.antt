@@ -15,7 +15,8 @@ use Rattle.topp2_ra.specs.Search.{neighbours, tryNeighbours, searched}
 use Rattle.topp2_ra.specs.Recovery.{wholeRows, tolerance, noneNan, inputsGood, previousGood, currentGood, afterCap, withRows, recovered}
 use Rattle.limits.specs.Row.{unfit, unmeetable}
 use Rattle.loops.specs.Upto.{every, count, seek, first, table, filled}
-use Rattle.interpolation.specs.Profile.{everyEntry, everyPair, notBelowZero, notBothZero, profileNo, speedNo}
+use Rattle.loops.specs.Entries.{everyEntry, everyPair}
+use Rattle.interpolation.specs.Profile.{notBelowZero, notBothZero, profileNo, speedNo}
 use Rattle.interpolation.specs.Slopes.{slope, slopesNo}
 use Rattle.interpolation.specs.Times.{leg, legTime, timeAt, timesFinite, startNo, timesNo}
 use Rattle.sampling.specs.Samples.{intervalOf, inverse2order, c1At, stationIn, isBefore, isInside, isPast, stationAt, countsOf, timedNo}

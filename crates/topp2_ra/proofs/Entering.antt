@@ -5,7 +5,7 @@ use lib.Ieee.{Float, nan, inf, fin, binary64, eq, lt}
 use lib.Ieee.Scale.{finite}
 use Rattle.roots.specs.Hypot.{hypotOf}
 use Rattle.loops.specs.Rows.{Row}
-use Rattle.limits.specs.Doubles.{zero, one, _⊗_, _⊘_}
+use Rattle.number.specs.Doubles.{zero, one, _⊗_, _⊘_}
 use Rattle.limits.specs.Row.{norm, rawTol, fourFinite, numbersFinite}
 use Rattle.limits.specs.Row.{unfit, unmeetable}
 use Rattle.limits.specs.Table.{blockOf}

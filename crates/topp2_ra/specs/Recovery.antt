@@ -7,7 +7,7 @@ use lib.ListN.{length}
 use lib.Ieee.{Float, lt, isNan}
 use lib.Ieee.Scale.{finite}
 use Rattle.loops.specs.Rows.{Row, rowsOf, any}
-use Rattle.limits.specs.Doubles as doubles
+use Rattle.number.specs.Doubles as doubles
 use Rattle.limits.specs.Bounds.{lowerEnd, cappedBy, lower, upper}
 use Rattle.topp2_ra.specs.Tolerant.{approxOrder, notLess, notGreater}
 use Rattle.limits.specs.Row.{unfit, unmeetable}

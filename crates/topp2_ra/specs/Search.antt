@@ -4,7 +4,7 @@ use mathlib.Core.Bool.{Bool, true, false, not, _&&_, _||_, cond}
 use lib.Ieee.{Float, binary64, lt, eq}
 use lib.Ieee.Scale.{finite}
 use Rattle.number.specs.Leaves.{nextDown}
-use Rattle.limits.specs.Doubles.{half, _⊕_, _⊗_}
+use Rattle.number.specs.Doubles.{half, _⊕_, _⊗_}
 use Rattle.limits.specs.declared.projection.Span.{Span}
 use Rattle.topp2_ra.specs.declared.halving.Ends.{Ends}
 use Rattle.limits.specs.declared.certificate.Certificate.{Certificate}

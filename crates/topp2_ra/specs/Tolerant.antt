@@ -3,7 +3,7 @@
 use mathlib.Core.Bool.{Bool, true, false, _||_, cond}
 use lib.Ieee.{Float, lt, le, eq}
 use Rattle.number.specs.Leaves.{maximum, absolute}
-use Rattle.limits.specs.Doubles.{_⊖_, _⊗_}
+use Rattle.number.specs.Doubles.{_⊖_, _⊗_}
 use Rattle.topp2_ra.specs.declared.tolerant.ApproxOrdering.{ApproxOrdering}
 use Rattle.topp2_ra.specs.declared.tolerant.ApproxOrdering.the-variants.{Less, Equal, Greater}
 

@@ -13,7 +13,7 @@ ghost use lib.Ieee.{Float};
 ghost use lib.Ieee.Scale.{finite};
 ghost use Rattle.number.specs.Leaves.{absolute, maximum};
 ghost use Rattle.loops.specs.Rows.{row, rowsOf, fold};
-ghost use Rattle.limits.specs.Doubles.{one};
+ghost use Rattle.number.specs.Doubles.{one};
 ghost use Rattle.limits.specs.Table.{doublesIn};
 ghost use Rattle.topp2_ra.specs.Filling.{countOf, foundIn, unmet, withBlock, foundRow, start};
 

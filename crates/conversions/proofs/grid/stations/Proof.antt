@@ -8,7 +8,7 @@ use borrow.Author.Tests.{leb-true}
 use lib.Dec.{leb}
 use lib.ListN.{length, take}
 use lib.Ieee.{Float}
-use Rattle.loops.specs.Refusals.{unless, _or_}
+use Rattle.refusals.specs.Refusals.{unless, _or_}
 use Rattle.sampling.specs.Samples.{countsOf}
 use Rattle.sampling.specs.Grid.{gridTime, gridSize, finalAdded, gridStation, gridEntry, gridEntries, evenNo, gridNo, Gridded}
 use Rattle.sampling.specs.declared.samples.Counts.{Counts}

@@ -1,4 +1,4 @@
-use Rattle.interpolation.proofs.Outcomes.{refuses}
+use Rattle.refusals.proofs.Outcomes.{refuses}
 use Rattle.conversions.proofs.Early.{times-refused, timed-gridded}
 use borrow.Author.Needs.{needs}
 use Rattle.conversions.proofs.grid.with_profile.Statement.{statement}

@@ -2,7 +2,7 @@ use Prim.Native.Nat.{_<_}
 use mathlib.Core.Path.{sym, _∙_}
 use native.Mathlib.Omega.{arith}
 use lib.ListN.{length}
-use Rattle.interpolation.proofs.Outcomes.{refuses}
+use Rattle.refusals.proofs.Outcomes.{refuses}
 use Rattle.byte_lists.specs.Bytes.{doublesOf}
 use Rattle.byte_lists.proofs.Fronts.{length-doubles}
 use Rattle.conversions.proofs.Early.{timed-listed, many-listed}

@@ -4,7 +4,7 @@ use mathlib.Core.List.{List}
 use native.Mathlib.Omega.{arith}
 use lib.ListN.{length}
 use Rattle.interpolation.specs.Slopes.{slopesNo}
-use Rattle.interpolation.proofs.Outcomes.{or-stop}
+use Rattle.refusals.proofs.Outcomes.{or-stop}
 use Rattle.byte_lists.specs.Bytes.{doublesOf}
 use Rattle.conversions.specs.Stations.{lengthsNo}
 use Rattle.conversions.proofs.Replies.{lengths-pass, lengths-stop, ten-replied, ten-refused, ten-next, declines}

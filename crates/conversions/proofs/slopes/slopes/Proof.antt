@@ -5,7 +5,7 @@ use native.Mathlib.Omega.{arith}
 use borrow.Author.Tests.{leb-true}
 use lib.ListN.{length, take}
 use lib.Ieee.{Float}
-use Rattle.loops.proofs.Refusals.{or-none, unless-none}
+use Rattle.refusals.proofs.Chains.{or-none, unless-none}
 use Rattle.interpolation.specs.Slopes.{slope, slopesNo, Slopes}
 use Rattle.interpolation.specs.declared.slopes.Sloped.{Sloped}
 use Rattle.interpolation.specs.declared.slopes.Sloped.the-variants.{Done, Refused}

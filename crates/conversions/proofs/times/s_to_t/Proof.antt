@@ -5,7 +5,7 @@ use native.Mathlib.Omega.{arith}
 use lib.ListN.{length}
 use lib.Ieee.{Float}
 use Rattle.interpolation.specs.Times.{startNo, timesNo}
-use Rattle.interpolation.proofs.Outcomes.{or-stop}
+use Rattle.refusals.proofs.Outcomes.{or-stop}
 use Rattle.byte_lists.specs.Bytes.{doublesOf}
 use Rattle.conversions.specs.Stations.{lengthsNo}
 use Rattle.conversions.proofs.Replies.{lengths-pass, lengths-stop, ten-replied, ten-refused, ten-next, declines}

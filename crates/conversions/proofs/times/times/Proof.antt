@@ -3,8 +3,8 @@ use mathlib.Core.Path.{_≡_, refl, sym, ap, _∙_}
 use mathlib.Core.List.{List, _++_}
 use lib.ListN.{length, take}
 use lib.Ieee.{Float}
-use Rattle.loops.specs.Refusals.{unless}
-use Rattle.loops.proofs.Refusals.{or-none}
+use Rattle.refusals.specs.Refusals.{unless}
+use Rattle.refusals.proofs.Chains.{or-none}
 use Rattle.interpolation.proofs.Timing.{starts}
 use Rattle.interpolation.specs.Times.{timeAt, timesFinite, startNo, timesNo, Times}
 use Rattle.interpolation.specs.declared.times.Timed.{Timed}

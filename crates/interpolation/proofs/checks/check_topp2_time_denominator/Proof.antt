@@ -1,6 +1,6 @@
 -- `interpolation::checks::check_topp2_time_denominator` meets its contract. Assumes nothing.
 use borrow.Author.Needs.{needs}
-use Rattle.loops.proofs.Refusals.{tested, chained}
+use Rattle.refusals.proofs.Chains.{tested, chained}
 use Rattle.interpolation.specs.Profile.{speedNo}
 use Rattle.interpolation.proofs.checks.check_topp2_time_denominator.Statement.{statement}
 use Rattle.interpolation.proofs.checks.check_topp2_time_denominator.Tie as tie

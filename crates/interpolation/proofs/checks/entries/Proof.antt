@@ -1,6 +1,6 @@
 -- `interpolation::checks::entries` meets its contract. Assumes nothing.
 use borrow.Author.Needs.{needs}
-use Rattle.loops.proofs.Refusals.{tested, chained}
+use Rattle.refusals.proofs.Chains.{tested, chained}
 use Rattle.interpolation.proofs.checks.entries.Statement.{statement}
 use Rattle.interpolation.proofs.checks.entries.Tie as tie
 

@@ -7,7 +7,7 @@ use borrow.Author.Needs.{needs}
 use lib.ListN.{length}
 use Rattle.loops.specs.Upto.{every, at}
 use Rattle.loops.proofs.Counting.{every-more, every-fails, every-none}
-use Rattle.interpolation.specs.Profile.{everyEntry}
+use Rattle.loops.specs.Entries.{everyEntry}
 use Rattle.interpolation.specs.Parts.{entryTest}
 use Rattle.interpolation.proofs.checks.every_entry.Statement.{statement}
 use Rattle.interpolation.proofs.checks.every_entry.Tie as tie

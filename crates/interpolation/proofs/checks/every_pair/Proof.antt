@@ -7,7 +7,7 @@ use borrow.Author.Needs.{needs}
 use lib.ListN.{length}
 use Rattle.loops.specs.Upto.{every, at}
 use Rattle.loops.proofs.Counting.{every-more, every-fails, every-none}
-use Rattle.interpolation.specs.Profile.{everyPair}
+use Rattle.loops.specs.Entries.{everyPair}
 use Rattle.interpolation.specs.Parts.{pairTest}
 use Rattle.interpolation.proofs.checks.every_pair.Statement.{statement}
 use Rattle.interpolation.proofs.checks.every_pair.Tie as tie

@@ -7,10 +7,10 @@ use borrow.Author.Tests.{leb-true}
 use borrow.Author.Needs.{needs}
 use lib.ListN.{length}
 use lib.Ieee.{Float}
-use Rattle.loops.proofs.Refusals.{or-none, unless-none}
+use Rattle.refusals.proofs.Chains.{or-none, unless-none}
 use Rattle.interpolation.specs.Slopes.{slopesNo}
 use Rattle.interpolation.proofs.Profiles.{Shaped, shaped}
-use Rattle.interpolation.proofs.Outcomes.{refuses, succeeds}
+use Rattle.refusals.proofs.Outcomes.{refuses, succeeds}
 use Rattle.interpolation.proofs.slopes.a_to_b_topp2.Statement.{statement}
 use Rattle.interpolation.proofs.slopes.a_to_b_topp2.Tie as tie
 

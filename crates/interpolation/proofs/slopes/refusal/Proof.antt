@@ -3,7 +3,7 @@ use mathlib.Core.Path.{sym, _∙_}
 use native.Mathlib.Omega.{arith}
 use borrow.Author.Needs.{needs}
 use Rattle.interpolation.specs.Slopes.{slopesNo}
-use Rattle.interpolation.proofs.Outcomes.{or-stop, or-next}
+use Rattle.refusals.proofs.Outcomes.{or-stop, or-next}
 use Rattle.interpolation.proofs.Profiles.{shaped}
 use Rattle.interpolation.proofs.slopes.refusal.Statement.{statement}
 use Rattle.interpolation.proofs.slopes.refusal.Tie as tie

@@ -1,7 +1,7 @@
 -- `interpolation::times::refusal` meets its contract. Assumes nothing.
 use borrow.Author.Needs.{needs}
 use Rattle.interpolation.specs.Times.{startNo}
-use Rattle.interpolation.proofs.Outcomes.{or-stop, or-next}
+use Rattle.refusals.proofs.Outcomes.{or-stop, or-next}
 use Rattle.interpolation.proofs.times.refusal.Statement.{statement}
 use Rattle.interpolation.proofs.times.refusal.Tie as tie
 

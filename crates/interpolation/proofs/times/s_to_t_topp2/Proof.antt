@@ -3,7 +3,7 @@ use mathlib.Core.Path.{sym, _∙_}
 use native.Mathlib.Omega.{arith}
 use borrow.Author.Needs.{needs}
 use Rattle.interpolation.specs.Times.{timesNo}
-use Rattle.interpolation.proofs.Outcomes.{or-stop, refuses}
+use Rattle.refusals.proofs.Outcomes.{or-stop, refuses}
 use Rattle.interpolation.proofs.Timing.{starts}
 use Rattle.interpolation.proofs.times.s_to_t_topp2.Statement.{statement}
 use Rattle.interpolation.proofs.times.s_to_t_topp2.Tie as tie

@@ -3,7 +3,7 @@ use mathlib.Core.Path.{_≡_, sym, ap, _∙_}
 use native.Mathlib.Omega.{arith}
 use lib.ListN.{length}
 use Rattle.loops.specs.Rows.{fold}
-use Rattle.limits.specs.Doubles.{zero}
+use Rattle.number.specs.Doubles.{zero}
 use Rattle.limits.specs.Table.{blockAt, blocksFrom, blocksOf}
 use Rattle.limits.specs.Steps.{fromZero, judged, countedBlock}
 use Rattle.limits.specs.declared.certificate.Certificate.{Certificate}

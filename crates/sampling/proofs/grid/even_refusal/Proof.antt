@@ -1,6 +1,6 @@
 -- `sampling::grid::even_refusal` meets its contract. Assumes nothing.
 use borrow.Author.Needs.{needs}
-use Rattle.loops.proofs.Refusals.{chained}
+use Rattle.refusals.proofs.Chains.{chained}
 use Rattle.sampling.specs.Grid.{evenNo}
 use Rattle.sampling.proofs.grid.even_refusal.Statement.{statement}
 use Rattle.sampling.proofs.grid.even_refusal.Tie as tie

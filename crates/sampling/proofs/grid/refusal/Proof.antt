@@ -3,7 +3,7 @@ use mathlib.Core.Path.{sym, _∙_}
 use native.Mathlib.Omega.{arith}
 use borrow.Author.Needs.{needs}
 use Rattle.sampling.specs.Grid.{gridNo}
-use Rattle.interpolation.proofs.Outcomes.{or-stop, or-next}
+use Rattle.refusals.proofs.Outcomes.{or-stop, or-next}
 use Rattle.sampling.proofs.Walks.{timed}
 use Rattle.sampling.proofs.grid.refusal.Statement.{statement}
 use Rattle.sampling.proofs.grid.refusal.Tie as tie

@@ -3,7 +3,7 @@ use mathlib.Core.Path.{sym, _∙_}
 use native.Mathlib.Omega.{arith}
 use borrow.Author.Needs.{needs}
 use Rattle.sampling.specs.Grid.{gridStation}
-use Rattle.interpolation.proofs.Outcomes.{refuses}
+use Rattle.refusals.proofs.Outcomes.{refuses}
 use Rattle.sampling.proofs.Walks.{counts-bounded}
 use Rattle.sampling.proofs.Samplings.{gridded, finished}
 use Rattle.sampling.proofs.grid.t_to_s_topp2_grid.Statement.{statement}

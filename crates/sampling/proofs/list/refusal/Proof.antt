@@ -1,7 +1,7 @@
 -- `sampling::list::refusal` meets its contract. Assumes nothing.
 use borrow.Author.Needs.{needs}
 use Rattle.sampling.specs.List.{listNo}
-use Rattle.interpolation.proofs.Outcomes.{or-stop, or-next}
+use Rattle.refusals.proofs.Outcomes.{or-stop, or-next}
 use Rattle.sampling.proofs.list.refusal.Statement.{statement}
 use Rattle.sampling.proofs.list.refusal.Tie as tie
 

@@ -7,9 +7,9 @@ use lib.Dec.{leb}
 use lib.ListN.{length}
 use lib.Ieee.{lt}
 use lib.Ieee.Scale.{finite}
-use Rattle.loops.specs.Refusals.{unless}
-use Rattle.loops.proofs.Refusals.{or-assoc}
-use Rattle.interpolation.specs.Profile.{everyEntry, everyPair}
+use Rattle.refusals.specs.Refusals.{unless}
+use Rattle.refusals.proofs.Chains.{or-assoc}
+use Rattle.loops.specs.Entries.{everyEntry, everyPair}
 use Rattle.sampling.specs.List.{samplesNo}
 use Rattle.sampling.proofs.list.samples_refusal.Statement.{statement}
 use Rattle.sampling.proofs.list.samples_refusal.Tie as tie

@@ -3,7 +3,7 @@ use mathlib.Core.Path.{sym, ap, _∙_}
 use native.Mathlib.Omega.{arith}
 use borrow.Author.Needs.{needs}
 use Rattle.sampling.specs.declared.samples.Sampled.the-variants.{Done}
-use Rattle.interpolation.proofs.Outcomes.{refuses, succeeds}
+use Rattle.refusals.proofs.Outcomes.{refuses, succeeds}
 use Rattle.sampling.proofs.Samplings.{listed}
 use Rattle.sampling.proofs.list.t_to_s_topp2_list.Statement.{statement}
 use Rattle.sampling.proofs.list.t_to_s_topp2_list.Tie as tie

@@ -1,7 +1,7 @@
 -- `sampling::samples::refusal` meets its contract. Assumes nothing.
 use borrow.Author.Needs.{needs}
 use Rattle.sampling.specs.Samples.{timedNo}
-use Rattle.interpolation.proofs.Outcomes.{or-stop, or-next}
+use Rattle.refusals.proofs.Outcomes.{or-stop, or-next}
 use Rattle.sampling.proofs.samples.refusal.Statement.{statement}
 use Rattle.sampling.proofs.samples.refusal.Tie as tie
 

@@ -2,7 +2,7 @@ use mathlib.Core.Path.{sym, ap, _∙_}
 use native.Mathlib.Omega.{arith}
 use lib.Ieee.{Float}
 use Rattle.loops.specs.Rows.{row}
-use Rattle.limits.specs.Doubles.{_⊗_}
+use Rattle.number.specs.Doubles.{_⊗_}
 use Rattle.topp2_ra.specs.Filling.{foundIn}
 use Rattle.topp2_ra.proofs.Entering.{numbers-unfit, row-unmet, row-silent, scale-unfit, row-says}
 use borrow.Author.Needs.{needs}

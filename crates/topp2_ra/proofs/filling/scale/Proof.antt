@@ -6,7 +6,7 @@ use lib.Ieee.Bits.{ofBits-fits}
 use Rattle.number.specs.Leaves.{negative, maximum}
 use Rattle.number.proofs.Order.{holds, number}
 use Rattle.number.proofs.Picks.{maximum-less, maximum-kept}
-use Rattle.limits.specs.Doubles.{one}
+use Rattle.number.specs.Doubles.{one}
 use borrow.Author.Needs.{needs}
 use Rattle.topp2_ra.proofs.filling.scale.Statement.{statement}
 use Rattle.topp2_ra.proofs.filling.scale.Tie as tie

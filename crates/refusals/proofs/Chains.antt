@@ -3,7 +3,7 @@ use mathlib.Core.Path.{_≡_, refl}
 use mathlib.Core.Bool.{Bool, true, false}
 use Prim.Native.Nat.{ℕ, zero, suc}
 use native.Mathlib.Nat.{suc-ne-zero}
-use Rattle.loops.specs.Refusals.{unless, _or_, onlyIf}
+use Rattle.refusals.specs.Refusals.{unless, _or_, onlyIf}
 
 pub or-some : (n later : ℕ) → (n ≡ 0 → ⊥) → n ≡ n or later
 or-some zero later h = absurd (h refl)

@@ -1,6 +1,6 @@
 // Refusals in order, as a chain of tests gives them.
 ghost use mathlib.Core.Path.{_≡_};
-ghost use Rattle.loops.specs.Refusals.{unless, _or_};
+ghost use Rattle.refusals.specs.Refusals.{unless, _or_};
 
 // A refusal: 0 where the test passes.
 pub fn unless(ok: bool, number: u64) -> u64

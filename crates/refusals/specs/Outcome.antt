@@ -3,7 +3,7 @@ use Prim.Native.Nat.{ℕ, zero, suc}
 use mathlib.Core.Path.{_≡_}
 use mathlib.Core.List.{List}
 use Rattle.loops.specs.Upto.{filled}
-use Rattle.loops.specs.Refusals.{onlyIf}
+use Rattle.refusals.specs.Refusals.{onlyIf}
 
 -- `done` holds the values of a success, and `refused` the number of a refusal
 abbrev pub answered : {A : Type 0} → A → (ℕ → A) → ℕ → A

@@ -3,9 +3,9 @@ use Prim.Native.Nat.{ℕ, zero, suc}
 use mathlib.Core.Path.{_≡_, refl, sym, ap, _∙_}
 use mathlib.Core.List.{List}
 use Rattle.loops.specs.Upto.{filled}
-use Rattle.loops.specs.Refusals.{_or_}
-use Rattle.loops.proofs.Refusals.{only-done, only-kept}
-use Rattle.interpolation.specs.Outcome.{answered, Outcome}
+use Rattle.refusals.specs.Refusals.{_or_}
+use Rattle.refusals.proofs.Chains.{only-done, only-kept}
+use Rattle.refusals.specs.Outcome.{answered, Outcome}
 
 -- a chain of refusals whose first part gave `number`: it is the answer, or the rest is
 pub or-stop : (number first rest : ℕ) → number ≡ first → (number ≡ 0 → ⊥) → number ≡ first or rest

@@ -1,8 +1,8 @@
--- `loops::chain::or` meets its contract. Assumes nothing.
+-- `refusals::chain::or` meets its contract. Assumes nothing.
 use borrow.Author.Needs.{needs}
-use Rattle.loops.proofs.Refusals.{or-some}
-use Rattle.loops.proofs.chain.or.Statement.{statement}
-use Rattle.loops.proofs.chain.or.Tie as tie
+use Rattle.refusals.proofs.Chains.{or-some}
+use Rattle.refusals.proofs.chain.or.Statement.{statement}
+use Rattle.refusals.proofs.chain.or.Tie as tie
 
 returns : tie.Need-returns
 returns c = search needs
