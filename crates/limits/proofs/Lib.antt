@@ -1,5 +1,1 @@
-pub mod Blocks
-pub mod Worst
-pub mod Within
-pub mod Counting
-pub mod Scanning
+pub mod Certificates

@@ -2,19 +2,18 @@
 use lib.Ieee.{Float}
 use Rattle.number.specs.Leaves.{minimum, maximum}
 use Rattle.number.specs.Doubles.{zero}
-use Rattle.limits.specs.declared.request.Interval.{Interval}
+use Rattle.limits.specs.declared.request.Station.{Station}
 use Rattle.limits.specs.declared.request.Request.{Request}
 
--- the lower end of an interval, and the cap
-abbrev pub lowerEnd : Interval → Float
-lowerEnd b = maximum (b .lower) zero
+abbrev pub lowerEnd : Station → Float
+lowerEnd b = maximum (b .interval .lower) zero
 
-abbrev pub cappedBy : Float → Interval → Float
-cappedBy cap b = minimum (b .upper) cap
+abbrev pub upperEnd : Station → Float
+upperEnd b = minimum (b .interval .upper) (b .cap)
 
 -- the current station's
 abbrev pub lower : Request → Float
-lower q = lowerEnd (q .«curr_backward»)
+lower q = lowerEnd (q .curr)
 
 abbrev pub upper : Request → Float
-upper q = cappedBy (q .«curr_path_max») (q .«curr_backward»)
+upper q = upperEnd (q .curr)

@@ -1,7 +1,5 @@
--- Document 01, "Recovery": bounds, certificate and projection, in its order.
+-- Document 01, "Recovery": bounds, certificate and projection, in its order. `Counting` is cited by inner functions alone.
 pub mod Bounds
-pub mod Row
 pub mod Certificate
 pub mod Projection
-pub mod Table
-pub mod Steps
+pub mod Counting

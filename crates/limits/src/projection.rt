@@ -1,14 +1,8 @@
-// The projection: each row cuts the speeds down to those at most, or at least, r/c.
-use crate::bounds;
-use crate::request::Request;
-use crate::table;
-use crate::table::Block;
+// The projection, of one row: it cuts the speeds down to those at most, or at least, r/c.
 use number::pick;
+use rows::block::Block;
 ghost use mathlib.Core.Path.{_≡_};
-ghost use Rattle.loops.specs.Rows.{fold};
-ghost use Rattle.limits.specs.Projection.{cutBy};
-ghost use Rattle.limits.specs.Table.{blocksOf};
-ghost use Rattle.limits.specs.Steps.{reachOf, cutByBlock, projectedOn};
+ghost use Rattle.limits.specs.Projection.{cutBy, flatBy, reachOf};
 
 // The projected ends.
 pub struct Span {
@@ -17,14 +11,14 @@ pub struct Span {
 }
 
 // r of a row.
-pub(crate) fn reach(tol: f64, b: Block) -> f64
+pub fn reach(tol: f64, b: Block) -> f64
     ensures { λ v. ⌜ v ≡ reachOf tol b ⌝ }
 {
     let inv = 1.0 / b.norm;
     b.bound + pick::minimum(tol, b.tol * inv) - b.shift
 }
 
-fn cut(s: Span, c: f64, r: f64) -> Span
+pub fn cut(s: Span, c: f64, r: f64) -> Span
     ensures { λ v. ⌜ v ≡ cutBy s c r ⌝ }
 {
     if 0.0 < c {
@@ -42,23 +36,15 @@ fn cut(s: Span, c: f64, r: f64) -> Span
     s
 }
 
-fn cut_all(tol: f64, table: &[f64], s: Span) -> Span
-    ensures { λ v. ⌜ v ≡ fold (cutByBlock tol) s (blocksOf (now (table .entry))) ⌝ }
+// c zero, and r below zero.
+pub fn is_flat(c: f64, r: f64) -> bool
+    ensures { λ b. ⌜ b ≡ flatBy c r ⌝ }
 {
-    let mut span = s;
-    let mut k = 0;
-    while k < table.len() / 8 {
-        let b = table::block_at(table, k);
-        span = cut(span, b.slope, reach(tol, b));
-        k += 1;
+    if 0.0 < c {
+        return false;
     }
-    span
-}
-
-pub fn project(q: Request, table: &[f64]) -> Span
-    ensures { λ v. ⌜ v ≡ projectedOn q (blocksOf (now (table .entry))) ⌝ }
-{
-    let low = bounds::lower(q);
-    let high = bounds::upper(q);
-    cut_all(q.feas_tol, table, Span { low, high })
+    if c < 0.0 {
+        return false;
+    }
+    r < 0.0
 }

@@ -1,4 +1,4 @@
-// What recovery is asked.
+// What recovery is asked. 01: "A request is a record of doubles".
 
 // The squared speeds from which the end can still be reached: a backward interval.
 pub struct Interval {
@@ -6,14 +6,22 @@ pub struct Interval {
     pub upper: f64,
 }
 
-// A request is a record of doubles: 01's names are the Rust's.
+// A station's record: its backward interval, and its path cap.
+pub struct Station {
+    pub interval: Interval,
+    pub cap: f64,
+}
+
+// 01's feas_tol, a_cmp_abs_tol and a_cmp_rel_tol.
+pub struct Tolerances {
+    pub feas: f64,
+    pub abs: f64,
+    pub rel: f64,
+}
+
 pub struct Request {
     pub a_prev: f64,
-    pub prev_backward: Interval,
-    pub curr_backward: Interval,
-    pub prev_path_max: f64,
-    pub curr_path_max: f64,
-    pub feas_tol: f64,
-    pub a_cmp_abs_tol: f64,
-    pub a_cmp_rel_tol: f64,
+    pub prev: Station,
+    pub curr: Station,
+    pub tolerances: Tolerances,
 }

@@ -10,12 +10,12 @@ use lib.Ieee.{Float, binary64, prec, size, ofBits, add, mul, le, lt, eq, fits}
 use lib.Ieee.Positive.{between}
 use Rattle.number.proofs.Fractions.{or-l, or-r, or-split}
 use Rattle.number.proofs.Order.{le-number, lt-le, eq-le, eq-ge, le-transitive, le-antisymmetric, lt-not-le, lt-or-le}
-use Rattle.loops.specs.Rows.{Row}
+use Rattle.rows.specs.Rows.{Row}
 use Rattle.number.specs.Doubles as doubles
 use Rattle.limits.specs.Certificate.{passes, certificate}
-use Rattle.topp2_ra.specs.Search.{middle, stops, replaced, halved, halvings}
+use Rattle.search.specs.Search.{middle, stops, replaced, halved, halvings}
 use Rattle.limits.specs.declared.request.Request.{Request}
-use Rattle.topp2_ra.specs.declared.halving.Ends.{Ends}
+use Rattle.search.specs.declared.halving.Ends.{Ends}
 use Rattle.limits.specs.declared.certificate.Certificate.{Certificate}
 use Rattle.limits.specs.declared.certificate.Certificate.the-variants.{Passed, Failed}
 use Rattle.passing.proofs.Grid.{rnd}

@@ -10,11 +10,11 @@ use Rattle.number.specs.Leaves.{minimum, maximum}
 use Rattle.number.proofs.Order.{number, le-number, le-transitive}
 use Rattle.number.proofs.Folds.{All}
 use Rattle.number.proofs.Extremes.{Fits, minimum-lattice, maximum-lattice, maximum-ge}
-use Rattle.loops.specs.Rows.{Row}
+use Rattle.rows.specs.Rows.{Row}
 use Rattle.number.specs.Doubles as doubles
 use Rattle.number.specs.Doubles.{_⊘_}
 use Rattle.limits.specs.Bounds.{lower, upper}
-use Rattle.limits.specs.Row.{empty, normalized, raw, rawNormalized}
+use Rattle.rows.specs.Row.{empty, normalized, raw, rawNormalized}
 use Rattle.limits.specs.Certificate.{worseNormalized, worseRaw}
 use Rattle.limits.specs.Projection.{reach, slope, cutBy, narrowed, projected}
 use Rattle.limits.specs.declared.request.Request.{Request}

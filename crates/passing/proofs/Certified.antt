@@ -8,18 +8,18 @@ use lib.Ieee.{Float, binary64, lt}
 use lib.Ieee.Fits.{and-l, and-r}
 use lib.Ieee.Scale.{finite}
 use Rattle.number.specs.Leaves.{nextDown}
-use Rattle.loops.specs.Rows.{Row, rowsOf, any}
+use Rattle.rows.specs.Rows.{Row, rowsOf, any}
 use Rattle.limits.specs.Bounds.{upper}
 use Rattle.limits.specs.Certificate.{passes, worstNormalized, worstRaw, certificate}
-use Rattle.topp2_ra.specs.Search.{Asked, middle, stops, replaced, halved, halvings, afterMiddle, withMiddle, tryMiddle, neighbours, tryNeighbours, searched}
+use Rattle.search.specs.Search.{Asked, middle, stops, replaced, halved, halvings, afterMiddle, withMiddle, tryMiddle, neighbours, tryNeighbours, searched}
 use Rattle.limits.specs.Projection.{projected, unreachable, flat}
 use Rattle.topp2_ra.specs.Recovery.{wholeRows, inputsGood, previousGood, currentGood, afterCap, withRows, recovered}
-use Rattle.limits.specs.Row.{unfit, unmeetable}
+use Rattle.rows.specs.Row.{unfit, unmeetable}
 use Rattle.limits.specs.declared.request.Request.{Request}
-use Rattle.topp2_ra.specs.declared.answer.Answer.{Answer}
-use Rattle.topp2_ra.specs.declared.answer.Answer.the-variants.{Certified, Refused}
+use Rattle.search.specs.declared.answer.Answer.{Answer}
+use Rattle.search.specs.declared.answer.Answer.the-variants.{Certified, Refused}
 use Rattle.limits.specs.declared.projection.Span.{Span}
-use Rattle.topp2_ra.specs.declared.halving.Ends.{Ends}
+use Rattle.search.specs.declared.halving.Ends.{Ends}
 use Rattle.limits.specs.declared.certificate.Certificate.{Certificate}
 use Rattle.limits.specs.declared.certificate.Certificate.the-variants.{Passed, Failed}
 

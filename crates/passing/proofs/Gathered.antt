@@ -7,8 +7,8 @@ use mathlib.Core.Bool.{Bool, true, false, not, _&&_, _||_}
 use lib.Dec.{T}
 use Rattle.number.proofs.Fractions.{or-l, or-r, or-split}
 use Rattle.number.proofs.Folds.{All, Within, Semilattice, fold-same}
-use Rattle.loops.specs.Rows.{Row, fold, any, all}
-use Rattle.limits.proofs.Within.{one-truth}
+use Rattle.rows.specs.Rows.{Row, fold, any, all}
+use Rattle.rows.proofs.Within.{one-truth}
 
 -- ---- scans
 

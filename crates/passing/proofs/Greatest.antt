@@ -11,20 +11,20 @@ use Rattle.number.specs.Leaves.{nextDown}
 use Rattle.number.specs.Units.{unitsOf}
 use Rattle.number.proofs.Order.{nought, number, finite-number, le-number, lt-number, lt-le, le-reflexive, le-transitive, lt-not-le, lt-or-le, between-finite}
 use Rattle.number.proofs.Neighbour.{next-fits, next-less, next-nearest}
-use Rattle.loops.specs.Rows.{Row, rowsOf}
+use Rattle.rows.specs.Rows.{Row, rowsOf}
 use Rattle.limits.specs.Bounds.{upper}
 use Rattle.limits.specs.Certificate.{passes, certificate}
 use Rattle.limits.specs.Projection.{projected}
-use Rattle.topp2_ra.specs.Search.{middle, stops, halvings, afterMiddle, withMiddle, tryMiddle, neighbours, tryNeighbours, searched}
+use Rattle.search.specs.Search.{middle, stops, halvings, afterMiddle, withMiddle, tryMiddle, neighbours, tryNeighbours, searched}
 use Rattle.topp2_ra.specs.Recovery.{recovered}
 use Rattle.limits.specs.declared.request.Request.{Request}
-use Rattle.topp2_ra.specs.declared.answer.Answer.{Answer}
-use Rattle.topp2_ra.specs.declared.answer.Answer.the-variants.{Certified, Refused}
+use Rattle.search.specs.declared.answer.Answer.{Answer}
+use Rattle.search.specs.declared.answer.Answer.the-variants.{Certified, Refused}
 use Rattle.limits.specs.declared.projection.Span.{Span}
-use Rattle.topp2_ra.specs.declared.halving.Ends.{Ends}
+use Rattle.search.specs.declared.halving.Ends.{Ends}
 use Rattle.limits.specs.declared.certificate.Certificate.{Certificate}
 use Rattle.limits.specs.declared.certificate.Certificate.the-variants.{Passed, Failed}
-use Rattle.limits.proofs.Within.{finite-above}
+use Rattle.rows.proofs.Within.{finite-above}
 use Rattle.passing.specs.Demand.{Doubles, smallest, Greatest}
 use Rattle.passing.proofs.NoGap.{zero-is, passes-between, no-gap}
 use Rattle.passing.proofs.Brought.{high-fits, low-from-zero}

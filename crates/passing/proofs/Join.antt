@@ -6,8 +6,8 @@ use Prim.Native.Nat.{_%_}
 use native.Mathlib.Omega.{arith}
 use lib.ListN.{length}
 use lib.Ieee.{Float}
-use Rattle.loops.specs.Rows.{Row, row, rowsOf, all}
-use Rattle.limits.specs.Row.{admits}
+use Rattle.rows.specs.Rows.{Row, row, rowsOf, all}
+use Rattle.rows.specs.Row.{admits}
 use Rattle.limits.specs.Certificate.{between, passes}
 use Rattle.limits.specs.declared.request.Request.{Request}
 

@@ -10,10 +10,10 @@ use lib.Ieee.Fits.{and-l, and-r, and-i}
 use lib.Ieee.Scale.{finite}
 use Rattle.number.proofs.Order.{nought, finite-number, le-transitive, le-total, between-finite, lt-or-le, le-antisymmetric}
 use Rattle.number.proofs.Monotone.{add-keeps, sub-keeps, mul-keeps, mul-turns, div-keeps, div-turns, add-number, sub-number, mul-number, add-finite, sub-finite, mul-finite}
-use Rattle.loops.specs.Rows.{Row, all}
+use Rattle.rows.specs.Rows.{Row, all}
 use Rattle.number.specs.Doubles.{zero, _⊗_}
 use Rattle.limits.specs.Bounds.{lower, upper}
-use Rattle.limits.specs.Row.{norm, empty, inv, rawTol, fourFinite, numbersFinite, normalized, raw, rawNormalized, allWithin, admits}
+use Rattle.rows.specs.Row.{norm, empty, inv, rawTol, fourFinite, numbersFinite, normalized, raw, rawNormalized, allWithin, admits}
 use Rattle.limits.specs.Certificate.{between, passes}
 use Rattle.limits.specs.declared.request.Request.{Request}
 

@@ -7,15 +7,15 @@ use lib.Ieee.Bits.{ofBits-fits}
 use Rattle.number.specs.Leaves.{minimum, maximum}
 use Rattle.number.proofs.Folds.{Within}
 use Rattle.number.proofs.Extremes.{Fits, minimum-lattice, maximum-lattice}
-use Rattle.loops.specs.Rows.{Row, rowsOf}
+use Rattle.rows.specs.Rows.{Row, rowsOf}
 use Rattle.number.specs.Doubles as doubles
 use Rattle.limits.specs.Bounds.{lower, upper}
-use Rattle.limits.specs.Row.{admits}
+use Rattle.rows.specs.Row.{admits}
 use Rattle.limits.specs.Certificate.{passes, worseNormalized, worseRaw, certificate}
-use Rattle.topp2_ra.specs.Search.{Asked, searched}
+use Rattle.search.specs.Search.{Asked, searched}
 use Rattle.limits.specs.Projection.{narrowed, projected, unreachable, flat}
 use Rattle.topp2_ra.specs.Recovery.{wholeRows, afterCap, withRows, recovered}
-use Rattle.limits.specs.Row.{unfit, unmeetable}
+use Rattle.rows.specs.Row.{unfit, unmeetable}
 use Rattle.limits.specs.declared.request.Request.{Request}
 use Rattle.limits.specs.declared.projection.Span.{Span}
 use Rattle.limits.specs.declared.certificate.Certificate.{Certificate}

@@ -2,7 +2,7 @@
 use mathlib.Core.List.{List, List·Memᴰ}
 use lib.Dec.{T}
 use lib.Ieee.{Float, binary64, le, fits, ofBits}
-use Rattle.loops.specs.Rows.{Row, rowsOf}
+use Rattle.rows.specs.Rows.{Row, rowsOf}
 use Rattle.limits.specs.Certificate.{passes}
 use Rattle.limits.specs.Projection.{projected}
 use Rattle.limits.specs.declared.request.Request.{Request}

@@ -6,18 +6,18 @@ use native.Mathlib.Omega.{arith}
 use lib.Ieee.{Float, binary64, lt}
 use lib.Ieee.Scale.{finite}
 use Rattle.number.specs.Leaves.{nextDown}
-use Rattle.loops.specs.Rows.{Row, rowsOf, any}
+use Rattle.rows.specs.Rows.{Row, rowsOf, any}
 use Rattle.limits.specs.Certificate.{certificate}
 use Rattle.limits.specs.Bounds.{upper}
-use Rattle.topp2_ra.specs.Search.{Asked, middle, stops, halved, halvings, afterMiddle, withMiddle, tryMiddle, neighbours, tryNeighbours, searched}
+use Rattle.search.specs.Search.{Asked, middle, stops, halved, halvings, afterMiddle, withMiddle, tryMiddle, neighbours, tryNeighbours, searched}
 use Rattle.limits.specs.Projection.{unreachable, flat, projected}
 use Rattle.topp2_ra.specs.Recovery.{wholeRows, inputsGood, previousGood, currentGood, afterCap, withRows, recovered}
-use Rattle.limits.specs.Row.{unfit, unmeetable}
+use Rattle.rows.specs.Row.{unfit, unmeetable}
 use Rattle.limits.specs.declared.request.Request.{Request}
-use Rattle.topp2_ra.specs.declared.answer.Answer.{Answer}
-use Rattle.topp2_ra.specs.declared.answer.Answer.the-variants.{Certified, Refused}
+use Rattle.search.specs.declared.answer.Answer.{Answer}
+use Rattle.search.specs.declared.answer.Answer.the-variants.{Certified, Refused}
 use Rattle.limits.specs.declared.projection.Span.{Span}
-use Rattle.topp2_ra.specs.declared.halving.Ends.{Ends}
+use Rattle.search.specs.declared.halving.Ends.{Ends}
 use Rattle.limits.specs.declared.certificate.Certificate.{Certificate}
 use Rattle.limits.specs.declared.certificate.Certificate.the-variants.{Passed, Failed}
 use Rattle.topp2_ra.proofs.Halvings.{halved-tried}

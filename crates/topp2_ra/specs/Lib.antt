@@ -1,6 +1,3 @@
--- Document 01, "Recovery", in its order.
+-- Document 01, "Recovery": the tolerant comparison, the refusals in order, the whole.
 pub mod Tolerant
-pub mod Search
 pub mod Recovery
-pub mod Filling
-pub mod Steps

@@ -1,11 +1,15 @@
-// Refusals 2 to 4: what the record itself must keep.
+// Refusals 1 to 4: the length of the list, and what the record itself must keep.
 use crate::tolerant;
 use limits::bounds;
 use limits::request::Request;
+use limits::request::Tolerances;
 use number::size;
+use refusals::chain::or;
+use refusals::chain::unless;
+use rows::whole;
 ghost use mathlib.Core.Path.{_≡_};
-ghost use Rattle.topp2_ra.specs.Recovery.{tolerance, noneNan, inputsGood, insidePrevious, previousGood, currentGood};
-ghost use Rattle.topp2_ra.specs.Steps.{threeTrue};
+ghost use mathlib.Core.Bool.{_&&_};
+ghost use Rattle.topp2_ra.specs.Recovery.{tolerance, tolerancesGood, noneNan, inputsGood, insidePrevious, previousGood, currentGood, requestNo};
 
 fn is_tolerance(t: f64) -> bool
     ensures { λ r. ⌜ r ≡ tolerance t ⌝ }
@@ -30,7 +34,7 @@ fn none_nan(a: f64, b: f64, c: f64, d: f64) -> bool
 }
 
 fn three_true(a: bool, b: bool, c: bool) -> bool
-    ensures { λ r. ⌜ r ≡ threeTrue a b c ⌝ }
+    ensures { λ r. ⌜ r ≡ a && (b && c) ⌝ }
 {
     if a {
         if b {
@@ -40,25 +44,28 @@ fn three_true(a: bool, b: bool, c: bool) -> bool
     false
 }
 
-pub(crate) fn inputs_good(q: Request) -> bool
+fn tolerances_good(t: Tolerances) -> bool
+    ensures { λ r. ⌜ r ≡ tolerancesGood t ⌝ }
+{
+    three_true(is_tolerance(t.feas), is_tolerance(t.abs), is_tolerance(t.rel))
+}
+
+// 2
+fn inputs_good(q: Request) -> bool
     ensures { λ r. ⌜ r ≡ inputsGood q ⌝ }
 {
     three_true(
-        three_true(
-            is_tolerance(q.feas_tol),
-            is_tolerance(q.a_cmp_abs_tol),
-            is_tolerance(q.a_cmp_rel_tol),
-        ),
+        tolerances_good(q.tolerances),
         three_true(
             size::finite(q.a_prev),
-            size::finite(q.prev_backward.lower),
-            size::finite(q.prev_backward.upper),
+            size::finite(q.prev.interval.lower),
+            size::finite(q.prev.interval.upper),
         ),
         none_nan(
-            q.curr_backward.lower,
-            q.curr_backward.upper,
-            q.prev_path_max,
-            q.curr_path_max,
+            q.curr.interval.lower,
+            q.curr.interval.upper,
+            q.prev.cap,
+            q.curr.cap,
         ),
     )
 }
@@ -66,22 +73,20 @@ pub(crate) fn inputs_good(q: Request) -> bool
 fn inside_previous(q: Request, low: f64, high: f64) -> bool
     ensures { λ r. ⌜ r ≡ insidePrevious q low high ⌝ }
 {
-    if tolerant::not_less(tolerant::approx_order(q.a_prev, low, q.a_cmp_abs_tol, q.a_cmp_rel_tol)) {
-        return tolerant::not_greater(tolerant::approx_order(
-            q.a_prev,
-            high,
-            q.a_cmp_abs_tol,
-            q.a_cmp_rel_tol,
-        ));
+    let abs = q.tolerances.abs;
+    let rel = q.tolerances.rel;
+    if tolerant::not_less(tolerant::approx_order(q.a_prev, low, abs, rel)) {
+        return tolerant::not_greater(tolerant::approx_order(q.a_prev, high, abs, rel));
     }
     false
 }
 
-pub(crate) fn previous_good(q: Request) -> bool
+// 3
+fn previous_good(q: Request) -> bool
     ensures { λ r. ⌜ r ≡ previousGood q ⌝ }
 {
-    let low = bounds::lower_end(q.prev_backward);
-    let high = bounds::capped_by(q.prev_path_max, q.prev_backward);
+    let low = bounds::lower_end(q.prev);
+    let high = bounds::upper_end(q.prev);
     three_true(
         size::finite(low),
         size::finite(high),
@@ -89,10 +94,22 @@ pub(crate) fn previous_good(q: Request) -> bool
     )
 }
 
-pub(crate) fn current_good(q: Request) -> bool
+// 4
+fn current_good(q: Request) -> bool
     ensures { λ r. ⌜ r ≡ currentGood q ⌝ }
 {
     let low = bounds::lower(q);
     let high = bounds::upper(q);
     three_true(size::finite(low), size::finite(high), !(high < low))
+}
+
+pub(crate) fn refusal(q: Request, rows: &[f64]) -> u64
+    ensures { λ r. ⌜ r ≡ requestNo q (now (rows .entry)) ⌝ }
+{
+    let outside = or(
+        unless(previous_good(q), 3),
+        unless(current_good(q), 4),
+    );
+    let inputs = or(unless(inputs_good(q), 2), outside);
+    or(unless(whole::whole_rows(rows.len()), 1), inputs)
 }

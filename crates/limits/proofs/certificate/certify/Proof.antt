@@ -1,5 +1,6 @@
-use Rattle.limits.specs.Steps.{certificateOn}
 use borrow.Author.Needs.{needs}
+use Rattle.rows.specs.Rows.{rowsOf}
+use Rattle.limits.proofs.Certificates.{certificate-counted}
 use Rattle.limits.proofs.certificate.certify.Statement.{statement}
 use Rattle.limits.proofs.certificate.certify.Tie as tie
 
@@ -10,14 +11,14 @@ certify-rows-requires : tie.Need-certify-rows-requires
 certify-rows-requires c κs = search needs
 
 returns : tie.Need-returns
-unfolding certificateOn
 returns c =
-    simp (← c .before .before .is-between .ensures, c .before .if1 .taken, ← c .certify-rows .ensures)
+    let a = c .before .before .before .before .args in
+    simp (← certificate-counted (a .q) (rowsOf (a .rows .now)) (a .x), ← c .before .before .is-between .ensures, c .before .if1 .taken, ← c .certify-rows .ensures)
 
 returns-2 : tie.Need-returns-2
-unfolding certificateOn
 returns-2 c =
-    simp (← c .before .is-between .ensures, c .if1 .left)
+    let a = c .before .before .before .args in
+    simp (← certificate-counted (a .q) (rowsOf (a .rows .now)) (a .x), ← c .before .is-between .ensures, c .if1 .left)
 
 pub certify-spec : {M : Type 1} → statement M
 certify-spec = tie.close (tie.spec is-between-requires certify-rows-requires returns returns-2)

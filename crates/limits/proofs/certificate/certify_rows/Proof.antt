@@ -1,106 +1,80 @@
-use Prim.Native.Nat.{_≤_, _+_, _-_, _/_}
-use mathlib.Core.Path.{_≡_, sym, ap, _∙_}
+use Prim.Native.Nat.{_≤_, _+_, _-_}
+use mathlib.Core.Path.{_≡_, refl, sym, ap, _∙_}
 use native.Mathlib.Omega.{arith}
-use lib.ListN.{length}
-use Rattle.loops.specs.Rows.{fold}
-use Rattle.number.specs.Doubles.{zero}
-use Rattle.limits.specs.Table.{blockAt, blocksFrom, blocksOf}
-use Rattle.limits.specs.Steps.{fromZero, judged, countedBlock}
+use lib.ListN.{length, drop}
+use Rattle.rows.specs.Rows.{rowsOf, fold}
+use Rattle.rows.proofs.RowScans.{fold-at, fold-end}
+use Rattle.limits.specs.Counting.{countedReading, countedRow}
 use Rattle.limits.specs.declared.certificate.Certificate.{Certificate}
-use Rattle.limits.specs.declared.certificate.Certificate.the-variants.{Passed}
-use Rattle.limits.proofs.Blocks.{blocks-all, fold-on, fold-done}
-use Rattle.limits.proofs.Worst.{zero-from}
-use Rattle.limits.proofs.Counting.{count-fits, count-broken, failed-stays}
-use mathlib.Core.Bool.{true}
 use borrow.Author.Needs.{needs}
 use Rattle.limits.proofs.certificate.certify_rows.Statement.{statement}
 use Rattle.limits.proofs.certificate.certify_rows.Tie as tie
 
 abbrev Inv-loop : tie.InvT-loop
-Inv-loop tol table x worst₀ k₀ worst k =
-    (k ≤ length table / 8)
-    × (fromZero (worst .normalized) ≡ true)
-    × (fromZero (worst .raw) ≡ true)
-    × (fold (countedBlock tol x) (Passed (worst .normalized) (worst .raw)) (blocksFrom table k (length table / 8 - k)) ≡ fold (countedBlock tol x) (Passed zero zero) (blocksOf table))
+Inv-loop tol a rows x c₀ i₀ c i =
+    (i ≤ length rows) × (fold (countedRow tol a x) c (rowsOf (drop i rows)) ≡ fold (countedRow tol a x) c₀ (rowsOf rows))
 
 abbrev μ-loop : tie.MeasureT-loop
-μ-loop tol table x worst₀ k₀ worst k =
-    length table / 8 - k
+μ-loop tol a rows x c₀ i₀ c i = length rows - i
 
 loop-holds : tie.Need-loop-holds Inv-loop μ-loop
-loop-holds c =
-    let a = c .before .args in
-    (omega arith, zero-from, zero-from, ap (fold (countedBlock (a .tol) (a .x)) (Passed zero zero)) (blocks-all (a .table .now)))
+loop-holds c = (omega arith, refl)
 
-block-at-requires : tie.Need-block-at-requires Inv-loop μ-loop
-block-at-requires c κs =
-    omega arith
+sub-loop : tie.Need-sub-loop Inv-loop μ-loop
+sub-loop c = omega arith
 
-judge-requires : tie.Need-judge-requires Inv-loop μ-loop
-judge-requires c κs = search needs
+mul-read : tie.Need-mul-read Inv-loop μ-loop
+mul-read c = omega arith
 
-enum-told : tie.Need-enum-told Inv-loop μ-loop
-enum-told c =
-    search needs
+shared-slice-read-read : tie.Need-shared-slice-read-read Inv-loop μ-loop
+shared-slice-read-read c = omega arith
 
-returns : tie.Need-returns Inv-loop μ-loop
-returns c =
-    let at = c .before .before .before .before .before in
-    let a = at .before .before .args in
-    let l = a .table .now in
-    let n = length l / 8 in
-    let k = at .loop .k in
-    let f = countedBlock (a .tol) (a .x) in
-    let s = at .loop .worst in
-    let e = sym (c .before .before .judge .ensures ∙ ap (judged (a .tol) (a .x)) (c .before .before .before .block-at .ensures)) ∙ c .enum-told .given .1 in
-    sym (fold-on l k n f (Passed (s .normalized) (s .raw)) (omega arith)
-    ∙ ap (λ (t : Certificate). fold f t (blocksFrom l (k + 1) (n - (k + 1)))) (count-broken (s .normalized) (s .raw) (judged (a .tol) (a .x) (blockAt l k)) e)
-    ∙ failed-stays (a .tol) (a .x) (blocksFrom l (k + 1) (n - (k + 1))))
-    ∙ at .loop .inv .3
+add-read : tie.Need-add-read Inv-loop μ-loop
+add-read c = omega arith
 
-enum-known-normalized : tie.Need-enum-known-normalized Inv-loop μ-loop
-enum-known-normalized c =
-    search needs
+mul-read-2 : tie.Need-mul-read-2 Inv-loop μ-loop
+mul-read-2 c = omega arith
 
-count-requires : tie.Need-count-requires Inv-loop μ-loop
-count-requires c κs =
-    let at = c .before .before .before .before .before .before in (at .loop .inv .1, at .loop .inv .2)
+shared-slice-read-read-2 : tie.Need-shared-slice-read-read-2 Inv-loop μ-loop
+shared-slice-read-read-2 c = omega arith
 
-add-k : tie.Need-add-k Inv-loop μ-loop
-add-k c =
-    omega arith
+add-read-2 : tie.Need-add-read-2 Inv-loop μ-loop
+add-read-2 c = omega arith
+
+mul-read-3 : tie.Need-mul-read-3 Inv-loop μ-loop
+mul-read-3 c = omega arith
+
+shared-slice-read-read-3 : tie.Need-shared-slice-read-read-3 Inv-loop μ-loop
+shared-slice-read-read-3 c = omega arith
+
+read-requires : tie.Need-read-requires Inv-loop μ-loop
+read-requires c κs = search needs
+
+count-reading-requires : tie.Need-count-reading-requires Inv-loop μ-loop
+count-reading-requires c κs = search needs
+
+add-i : tie.Need-add-i Inv-loop μ-loop
+add-i c = omega arith
 
 loop-less : tie.Need-loop-less Inv-loop μ-loop
-loop-less c =
-    omega arith
+loop-less c = omega arith
 
 loop-again : tie.Need-loop-again Inv-loop μ-loop
 loop-again c =
-    let at = c .before .before .before .before .before .before .before in
+    let at = c .before .before .before .before .before .before in
     let a = at .before .before .args in
-    let l = a .table .now in
-    let n = length l / 8 in
-    let k = at .loop .k in
-    let f = countedBlock (a .tol) (a .x) in
-    let s = at .loop .worst in
-    let w = c .count .ensures in
-    let e = sym (c .before .before .before .before .judge .ensures ∙ ap (judged (a .tol) (a .x)) (c .before .before .before .before .before .block-at .ensures)) ∙ c .before .before .normalized .given .1 in (
+    let f = countedRow (a .tol) (a .a) (a .x) in
+    let i = at .loop .i in
+    let e = c .count-reading .ensures ∙ ap (countedReading (a .tol) (a .x) (at .loop .c)) (c .before .read .ensures) in (
       omega arith,
-      w .normalized-from,
-      w .raw-from,
-      ap (λ (t : Certificate). fold f t (blocksFrom l (k + 1) (n - (k + 1)))) (count-fits (s .normalized) (s .raw) (judged (a .tol) (a .x) (blockAt l k)) _ _ _ _ _ e (w .normalized-is) (w .raw-is))
-          ∙ (sym (fold-on l k n f (Passed (s .normalized) (s .raw)) (omega arith)) ∙ at .loop .inv .3),
+      ap (λ (v : Certificate). fold f v (rowsOf (drop (i + 3) (a .rows .now)))) e ∙ (sym (fold-at f (at .loop .c) (a .rows .now) i (omega arith)) ∙ at .loop .inv .1),
     )
 
-returns-2 : tie.Need-returns-2 Inv-loop μ-loop
-returns-2 c =
+returns : tie.Need-returns Inv-loop μ-loop
+returns c =
     let at = c .before in
     let a = at .before .before .args in
-    let l = a .table .now in
-    let n = length l / 8 in
-    let k = at .loop .k in
-    let s = at .loop .worst in
-    sym (fold-done l k n (countedBlock (a .tol) (a .x)) (Passed (s .normalized) (s .raw)) (omega arith)) ∙ at .loop .inv .3
+    sym (fold-end (countedRow (a .tol) (a .a) (a .x)) (at .loop .c) (a .rows .now) (at .loop .i) (omega arith)) ∙ at .loop .inv .1
 
 pub certify-rows-spec : {M : Type 1} → statement M
 certify-rows-spec =
@@ -109,13 +83,18 @@ certify-rows-spec =
     Inv-loop
     μ-loop
     loop-holds
-    block-at-requires
-    judge-requires
-    enum-told
-    returns
-    enum-known-normalized
-    count-requires
-    add-k
+    sub-loop
+    mul-read
+    shared-slice-read-read
+    add-read
+    mul-read-2
+    shared-slice-read-read-2
+    add-read-2
+    mul-read-3
+    shared-slice-read-read-3
+    read-requires
+    count-reading-requires
+    add-i
     loop-less
     loop-again
-    returns-2)
+    returns)

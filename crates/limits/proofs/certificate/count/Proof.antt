@@ -1,30 +1,61 @@
-use mathlib.Core.Path.{ap, _∙_}
-use lib.Ieee.{Float}
-use Rattle.number.specs.Leaves.{maximum}
+use Rattle.limits.specs.Counting.{counted}
 use borrow.Author.Needs.{needs}
 use Rattle.limits.proofs.certificate.count.Statement.{statement}
 use Rattle.limits.proofs.certificate.count.Tie as tie
 
-worse-requires : tie.Need-worse-requires
-worse-requires c κs = search needs
+enum-told : tie.Need-enum-told
+enum-told c = search needs
 
-worse-requires-2 : tie.Need-worse-requires-2
-worse-requires-2 c κs = search needs
+enum-known-c : tie.Need-enum-known-c
+enum-known-c c = search needs
 
-worse-requires-3 : tie.Need-worse-requires-3
-worse-requires-3 c κs = search needs
+enum-told-2 : tie.Need-enum-told-2
+enum-told-2 c = search needs
+
+enum-known-j : tie.Need-enum-known-j
+enum-known-j c = search needs
+
+maximum-requires : tie.Need-maximum-requires
+maximum-requires c κs = search needs
+
+maximum-requires-2 : tie.Need-maximum-requires-2
+maximum-requires-2 c κs = search needs
+
+maximum-requires-3 : tie.Need-maximum-requires-3
+maximum-requires-3 c κs = search needs
 
 returns : tie.Need-returns
-returns c =
-    let twice = c .before .worse2 .ensures in
-    let once = c .before .before .worse .ensures in
-    let a = c .before .before .before .args in
-    record {
-      normalized-is = twice .0 ∙ ap (λ (y : Float). maximum y (a .raw-normalized)) (once .0);
-      raw-is = c .worse3 .ensures .0;
-      normalized-from = twice .1;
-      raw-from = c .worse3 .ensures .1;
-    }
+unfolding counted
+returns c = simp (c .enum-told .given .1)
+
+returns-2 : tie.Need-returns-2
+unfolding counted
+returns-2 c = simp (c .before .before .before .c .given .1, c .enum-told2 .given .1)
+
+returns-3 : tie.Need-returns-3
+unfolding counted
+returns-3 c =
+    let m = c .before .before in
+    let j = m .before .before in
+    simp (
+      ← c .maximum3 .ensures,
+      ← c .before .maximum2 .ensures,
+      ← m .maximum .ensures,
+      j .j .given .1,
+      j .before .before .before .c .given .1,
+    )
 
 pub count-spec : {M : Type 1} → statement M
-count-spec = tie.close (tie.spec worse-requires worse-requires-2 worse-requires-3 returns)
+count-spec =
+    tie.close
+    (tie.spec
+    enum-told
+    enum-known-c
+    enum-told-2
+    enum-known-j
+    maximum-requires
+    maximum-requires-2
+    maximum-requires-3
+    returns
+    returns-2
+    returns-3)

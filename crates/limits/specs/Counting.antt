@@ -1,0 +1,27 @@
+-- The certificate as it is worked out, one row after another: what inner functions promise.
+use lib.Ieee.{Float}
+use Rattle.number.specs.Leaves.{maximum}
+use Rattle.rows.specs.Rows.{Row}
+use Rattle.rows.specs.Reading.{readingOf}
+use Rattle.rows.specs.Judging.{judged}
+use Rattle.rows.specs.declared.reading.Reading.{Reading}
+use Rattle.rows.specs.declared.reading.Reading.the-variants.{Unfit, Unmeetable, Silent, Says}
+use Rattle.rows.specs.declared.judging.Judged.{Judged}
+use Rattle.rows.specs.declared.judging.Judged.the-variants.{Broken, Fits}
+use Rattle.limits.specs.declared.certificate.Certificate.{Certificate}
+use Rattle.limits.specs.declared.certificate.Certificate.the-variants.{Passed, Failed}
+
+-- one row more, counted in the certificate so far
+unfoldable pub counted : Certificate → Judged → Certificate
+counted Failed j = Failed
+counted (Passed n r) Broken = Failed
+counted (Passed n r) (Fits first third second) = Passed (maximum (maximum n first) third) (maximum r second)
+
+unfoldable pub countedReading : Float → Float → Certificate → Reading → Certificate
+countedReading tol x c Unfit = Failed
+countedReading tol x c Unmeetable = Failed
+countedReading tol x c Silent = c
+countedReading tol x c (Says b) = counted c (judged tol x b)
+
+abbrev pub countedRow : Float → Float → Float → Certificate → Row → Certificate
+countedRow tol a x c w = countedReading tol x c (readingOf tol a w)

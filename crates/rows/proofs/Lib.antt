@@ -1,0 +1,3 @@
+pub mod RowScans
+pub mod Within
+pub mod Readings

@@ -1,0 +1,35 @@
+-- The cap, and the search after a cap that failed.
+use Prim.Native.Nat.{ℕ}
+use mathlib.Core.Bool.{cond}
+use mathlib.Core.List.{List}
+use lib.Ieee.{Float}
+use Rattle.refusals.specs.Refusals.{unless, _or_}
+use Rattle.refusals.specs.Outcome.{answered}
+use Rattle.rows.specs.Rows.{Row, rowsOf, wholeRows, any}
+use Rattle.rows.specs.Row.{rowsNo}
+use Rattle.limits.specs.Bounds.{upper}
+use Rattle.limits.specs.Certificate.{certificate}
+use Rattle.limits.specs.Projection.{unreachable, flat, projected}
+use Rattle.limits.specs.declared.request.Request.{Request}
+use Rattle.limits.specs.declared.certificate.Certificate.{Certificate}
+use Rattle.limits.specs.declared.certificate.Certificate.the-variants.{Passed, Failed}
+use Rattle.search.specs.Search.{searched}
+use Rattle.search.specs.declared.answer.Answer.{Answer}
+use Rattle.search.specs.declared.answer.Answer.the-variants.{Certified, Refused}
+
+-- refusals 7 and 8, of rows, come before the search
+unfoldable pub afterCap : Request → List Row → Certificate → Answer
+afterCap q rows (Passed n r) = Certified (upper q) n r 1
+afterCap q rows Failed =
+    cond (any (unreachable (q .tolerances .feas) (q .«a_prev»)) rows) (Refused 7)
+    (cond (any (flat (q .tolerances .feas) (q .«a_prev»)) rows) (Refused 8) (searched (certificate q rows) (projected q rows)))
+
+unfoldable pub withCap : Request → List Row → Answer
+withCap q rows = afterCap q rows (certificate q rows (upper q))
+
+-- the rows' own refusals come before the cap: 5 and 6, and 1 before them
+unfoldable pub ofRows : Request → List Row → Answer
+ofRows q rows = answered (withCap q rows) Refused (rowsNo (q .tolerances .feas) rows)
+
+unfoldable pub withRows : Request → List Float → Answer
+withRows q l = answered (withCap q (rowsOf l)) Refused (unless (wholeRows l) 1 or rowsNo (q .tolerances .feas) (rowsOf l))
