@@ -5,12 +5,11 @@ use mathlib.Core.Bool.{Bool, true, false}
 use native.Mathlib.Omega.{arith}
 use lib.Ieee.{Float, binary64, lt}
 use Rattle.number.specs.Leaves.{nextDown}
-use Rattle.search.specs.Search.{Asked, middle, stops, replaced, halved, halvings, neighbours, tryMiddle}
-use Rattle.search.specs.declared.answer.Answer.the-variants.{Certified}
-use Rattle.limits.specs.declared.projection.Span.{Span}
-use Rattle.search.specs.declared.halving.Ends.{Ends}
 use Rattle.limits.specs.declared.certificate.Certificate.{Certificate}
 use Rattle.limits.specs.declared.certificate.Certificate.the-variants.{Passed, Failed}
+use Rattle.search.specs.Search.{Asked, middle, stops, replaced, halved, halvings, neighbours}
+use Rattle.search.specs.declared.halving.Ends.{Ends}
+use Rattle.search.specs.declared.neighbours.Near.the-variants.{Found, ToMiddle}
 
 module _ (cert : Asked) where
   pub halvings-on : (n : ℕ) (e : Ends) → 0 < n → stops e ≡ false → halvings cert n (stops e) e ≡ halvings cert (n - 1) (stops (halved cert e)) (halved cert e)
@@ -38,24 +37,24 @@ module _ (cert : Asked) where
   halved-tried e = let m = middle (e .passing) (e .rejected) in replaced-tried e m (cert m)
 
   -- ---- neighbours: 6 less those that were tried are left
-  module _ (s : Span) where
-    pub near-below : (n : ℕ) (b : Bool) (c : Certificate) (x : Float) (t : ℕ) → b ≡ true → neighbours cert s n b c x t ≡ tryMiddle cert s t
+  module _ (low : Float) where
+    pub near-below : (n : ℕ) (b : Bool) (c : Certificate) (x : Float) (t : ℕ) → b ≡ true → neighbours cert low n b c x t ≡ ToMiddle t
     unfolding neighbours
     near-below zero b c x t e = refl
     near-below (suc n) b c x t e = rw e
 
-    pub near-end : (n : ℕ) (b : Bool) (c : Certificate) (x : Float) (t : ℕ) → n ≤ 0 → neighbours cert s n b c x t ≡ tryMiddle cert s t
+    pub near-end : (n : ℕ) (b : Bool) (c : Certificate) (x : Float) (t : ℕ) → n ≤ 0 → neighbours cert low n b c x t ≡ ToMiddle t
     unfolding neighbours
     near-end zero b c x t h = refl
     near-end (suc n) b c x t h = absurd (omega arith)
 
-    pub near-found : (n : ℕ) (b : Bool) (c : Certificate) (x : Float) (t : ℕ) (u v : Float) → 0 < n → b ≡ false → c ≡ Passed u v → neighbours cert s n b c x t ≡ Certified x u v (t + 1)
+    pub near-found : (n : ℕ) (b : Bool) (c : Certificate) (x : Float) (t : ℕ) (u v : Float) → 0 < n → b ≡ false → c ≡ Passed u v → neighbours cert low n b c x t ≡ Found x u v (t + 1)
     unfolding neighbours
     near-found zero b c x t u v h e f = absurd (omega arith)
     near-found (suc n) b c x t u v h e f = rw (e, f)
 
     pub near-on : (n : ℕ) (b : Bool) (c : Certificate) (x : Float) (t : ℕ) → 0 < n → b ≡ false → c ≡ Failed
-        → neighbours cert s n b c x t ≡ neighbours cert s (n - 1) (lt (nextDown binary64 x) (s .low)) (cert (nextDown binary64 x)) (nextDown binary64 x) (t + 1)
+        → neighbours cert low n b c x t ≡ neighbours cert low (n - 1) (lt (nextDown binary64 x) low) (cert (nextDown binary64 x)) (nextDown binary64 x) (t + 1)
     unfolding neighbours
     near-on zero b c x t h e f = absurd (omega arith)
     near-on (suc n) b c x t h e f = let d : suc n - 1 ≡ n = omega arith in rw (e, f, d)

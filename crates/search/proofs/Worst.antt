@@ -18,25 +18,25 @@ above (fin true m e) h = absurd h
 above (fin false m e) h = tt
 
 -- what is not below +0
-from : (x : Float) → T (number x) → (T (signed true x) → ⊥) → fromZero x ≡ true
+from : (x : Float) → T (number x) → (T (signed true x) → ⊥) → T (fromZero x)
 unfolding fromZero isNan negative
 from nan n h = absurd n
 from (inf true) n h = absurd (h tt)
-from (inf false) n h = refl
+from (inf false) n h = tt
 from (fin true m e) n h = absurd (h tt)
-from (fin false m e) n h = refl
+from (fin false m e) n h = tt
 
-module _ (w x : Float) (h : fromZero w ≡ true) where
+module _ (w x : Float) (h : T (fromZero w)) where
   pub worse-is : lt w x ≡ true → x ≡ maximum w x
   worse-is l = maximum-more w x l
 
-  pub worse-from : lt w x ≡ true → fromZero x ≡ true
-  worse-from l = from x (lt-number w x (holds l) .1) (λ s. lt-not-le w x (holds l) (below-zero x w s (above w (holds h))))
+  pub worse-from : lt w x ≡ true → T (fromZero x)
+  worse-from l = from x (lt-number w x (holds l) .1) (λ s. lt-not-le w x (holds l) (below-zero x w s (above w h)))
 
   -- the parts of fromZero
   no-nan : isNan w ≡ false
   unfolding fromZero
-  no-nan = go (isNan w) (holds h)
+  no-nan = go (isNan w) h
     where
       go : (b : Bool) → T (not b && not (negative w)) → b ≡ false
       go true t = absurd t
@@ -44,7 +44,7 @@ module _ (w x : Float) (h : fromZero w ≡ true) where
 
   no-sign : negative w ≡ false
   unfolding fromZero
-  no-sign = go (isNan w) (negative w) (holds h)
+  no-sign = go (isNan w) (negative w) h
     where
       go : (b c : Bool) → T (not b && not c) → c ≡ false
       go true c t = absurd t
@@ -60,6 +60,6 @@ module _ (w x : Float) (h : fromZero w ≡ true) where
       go false true = refl
       go false false = refl
 
-pub zero-from : fromZero zero ≡ true
+pub zero-from : T (fromZero zero)
 unfolding fromZero isNan negative ofBits
-zero-from = refl
+zero-from = tt

@@ -1,11 +1,13 @@
 use Prim.Native.Nat.{_≤_, _+_, _-_, _/_}
 use mathlib.Core.Path.{_≡_, sym, ap, _∙_}
 use native.Mathlib.Omega.{arith}
+use lib.Dec.{T}
 use lib.ListN.{length}
 use Rattle.rows.specs.Rows.{fold}
 use Rattle.number.specs.Doubles.{zero}
 use Rattle.search.specs.Table.{blockAt, blocksFrom, blocksOf}
-use Rattle.search.specs.OnTable.{fromZero, judged, countedBlock}
+use Rattle.rows.specs.Judging.{judged}
+use Rattle.search.specs.OnTable.{fromZero, countedBlock}
 use Rattle.limits.specs.declared.certificate.Certificate.{Certificate}
 use Rattle.limits.specs.declared.certificate.Certificate.the-variants.{Passed}
 use Rattle.search.proofs.Blocks.{blocks-all, fold-on, fold-done}
@@ -19,8 +21,8 @@ use Rattle.search.proofs.certificate.certify_rows.Tie as tie
 abbrev Inv-loop : tie.InvT-loop
 Inv-loop tol table x worst₀ k₀ worst k =
     (k ≤ length table / 8)
-    × (fromZero (worst .normalized) ≡ true)
-    × (fromZero (worst .raw) ≡ true)
+    × T (fromZero (worst .normalized))
+    × T (fromZero (worst .raw))
     × (fold (countedBlock tol x) (Passed (worst .normalized) (worst .raw)) (blocksFrom table k (length table / 8 - k)) ≡ fold (countedBlock tol x) (Passed zero zero) (blocksOf table))
 
 abbrev μ-loop : tie.MeasureT-loop

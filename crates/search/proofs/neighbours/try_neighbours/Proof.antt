@@ -13,7 +13,8 @@ use Rattle.search.proofs.neighbours.try_neighbours.Tie as tie
 
 abbrev Inv-loop : tie.InvT-loop
 Inv-loop q table s x₀ tried₀ x tried =
-    (1 ≤ tried) × (tried ≤ 6) × (neighbours (certificateOn q (blocksOf table)) s (6 - tried) (lt x (s .low)) (certificateOn q (blocksOf table) x) x tried ≡ tryNeighbours (certificateOn q (blocksOf table)) s)
+    let cert = certificateOn q (blocksOf table) in
+    (1 ≤ tried) × (tried ≤ 6) × (neighbours cert (s .low) (6 - tried) (lt x (s .low)) (cert x) x tried ≡ tryNeighbours cert s)
 
 abbrev μ-loop : tie.MeasureT-loop
 μ-loop q table s x₀ tried₀ x tried = 6 - tried
@@ -23,16 +24,13 @@ unfolding tryNeighbours
 loop-holds c =
     (omega arith, omega arith, refl)
 
-try-middle-requires : tie.Need-try-middle-requires Inv-loop μ-loop
-try-middle-requires c κs =
-    omega arith
-
 returns : tie.Need-returns Inv-loop μ-loop
 returns c =
-    let at = c .before .before .before .before in
+    let at = c .before .before .before in
     let a = at .before .before .args in
+    let l = at .loop in
     let cert = certificateOn (a .q) (blocksOf (a .table .now)) in
-    c .try-middle .ensures ∙ (sym (near-below cert (a .s) (6 - at .loop .tried) (lt (at .loop .x) (a .s .low)) (cert (at .loop .x)) (at .loop .x) (at .loop .tried) (c .before .if1 .taken)) ∙ at .loop .inv .2)
+    (sym (near-below cert (a .s .low) (6 - l .tried) (lt (l .x) (a .s .low)) (cert (l .x)) (l .x) (l .tried) (c .if1 .taken)) ∙ l .inv .2, omega arith)
 
 add-tried : tie.Need-add-tried Inv-loop μ-loop
 add-tried c =
@@ -47,10 +45,13 @@ enum-known-worst-normalized c =
 
 returns-2 : tie.Need-returns-2 Inv-loop μ-loop
 returns-2 c =
-    let at = c .before .before .before .before .before .before .before in
+    let n = c .before .before .before in
+    let at = n .before .before .before .before in
     let a = at .before .before .args in
+    let l = at .loop in
     let cert = certificateOn (a .q) (blocksOf (a .table .now)) in
-    sym (near-found cert (a .s) (6 - at .loop .tried) (lt (at .loop .x) (a .s .low)) (cert (at .loop .x)) (at .loop .x) (at .loop .tried) _ _ (omega arith) (c .before .before .before .before .if1 .left) (sym (c .before .before .before .certify .ensures) ∙ c .before .worst-normalized .given .1)) ∙ at .loop .inv .2
+    let passed = sym (n .certify .ensures) ∙ c .before .worst-normalized .given .1 in
+    (sym (near-found cert (a .s .low) (6 - l .tried) (lt (l .x) (a .s .low)) (cert (l .x)) (l .x) (l .tried) _ _ (omega arith) (n .before .if1 .left) passed) ∙ l .inv .2, omega arith)
 
 enum-told : tie.Need-enum-told Inv-loop μ-loop
 enum-told c =
@@ -65,28 +66,31 @@ loop-less c =
 
 loop-again : tie.Need-loop-again Inv-loop μ-loop
 loop-again c =
-    let at = c .before .before .before .before .before .before .before in
+    let n = c .before .before .before in
+    let at = n .before .before .before .before in
     let a = at .before .before .args in
+    let l = at .loop in
+    let low = a .s .low in
     let cert = certificateOn (a .q) (blocksOf (a .table .now)) in
-    let t = at .loop .tried in
-    let d : 6 - t - 1 ≡ 6 - (t + 1) = omega arith in (
+    let t = l .tried in
+    let y = nextDown binary64 (l .x) in
+    let d : 6 - t - 1 ≡ 6 - (t + 1) = omega arith in
+    let failed = sym (n .certify .ensures) ∙ c .before .enum-told .given .1 in (
       omega arith,
       omega arith,
-      ap (λ (y : Float). neighbours cert (a .s) (6 - (t + 1)) (lt y (a .s .low)) (cert y) y (t + 1)) (c .next-down .ensures)
-          ∙ ap (λ (k : ℕ). neighbours cert (a .s) k (lt (nextDown binary64 (at .loop .x)) (a .s .low)) (cert (nextDown binary64 (at .loop .x))) (nextDown binary64 (at .loop .x)) (t + 1)) (sym d)
-          ∙ (sym (near-on cert (a .s) (6 - at .loop .tried) (lt (at .loop .x) (a .s .low)) (cert (at .loop .x)) (at .loop .x) (at .loop .tried) (omega arith) (c .before .before .before .before .if1 .left) (sym (c .before .before .before .certify .ensures) ∙ c .before .enum-told .given .1)) ∙ at .loop .inv .2),
+      ap (λ (v : Float). neighbours cert low (6 - (t + 1)) (lt v low) (cert v) v (t + 1)) (c .next-down .ensures)
+          ∙ ap (λ (k : ℕ). neighbours cert low k (lt y low) (cert y) y (t + 1)) (sym d)
+          ∙ sym (near-on cert low (6 - t) (lt (l .x) low) (cert (l .x)) (l .x) t (omega arith) (n .before .if1 .left) failed)
+          ∙ l .inv .2,
     )
-
-try-middle-requires-2 : tie.Need-try-middle-requires-2 Inv-loop μ-loop
-try-middle-requires-2 c κs =
-    omega arith
 
 returns-3 : tie.Need-returns-3 Inv-loop μ-loop
 returns-3 c =
-    let at = c .before .before in
+    let at = c .before in
     let a = at .before .before .args in
+    let l = at .loop in
     let cert = certificateOn (a .q) (blocksOf (a .table .now)) in
-    c .try-middle2 .ensures ∙ (sym (near-end cert (a .s) (6 - at .loop .tried) (lt (at .loop .x) (a .s .low)) (cert (at .loop .x)) (at .loop .x) (at .loop .tried) (omega arith)) ∙ at .loop .inv .2)
+    (sym (near-end cert (a .s .low) (6 - l .tried) (lt (l .x) (a .s .low)) (cert (l .x)) (l .x) (l .tried) (omega arith)) ∙ l .inv .2, omega arith)
 
 pub try-neighbours-spec : {M : Type 1} → statement M
 try-neighbours-spec =
@@ -95,7 +99,6 @@ try-neighbours-spec =
     Inv-loop
     μ-loop
     loop-holds
-    try-middle-requires
     returns
     add-tried
     certify-requires
@@ -105,5 +108,4 @@ try-neighbours-spec =
     next-down-requires
     loop-less
     loop-again
-    try-middle-requires-2
     returns-3)

@@ -20,7 +20,7 @@ returns : tie.Need-returns
 returns c =
     let a = c .before .before .before .before .args in
     c .cut-all .ensures
-    ∙ ap (λ (s : Span). fold (cutByBlock (a .q .«feas_tol»)) s (blocksOf (a .table .now))) (simp (← c .before .upper .ensures, ← c .before .before .lower .ensures))
+    ∙ ap (λ (s : Span). fold (cutByBlock (a .q .tolerances .feas)) s (blocksOf (a .table .now))) (simp (← c .before .upper .ensures, ← c .before .before .lower .ensures))
 
 pub project-spec : {M : Type 1} → statement M
 project-spec = tie.close (tie.spec lower-requires upper-requires cut-all-requires returns)

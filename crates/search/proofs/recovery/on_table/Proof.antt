@@ -4,7 +4,7 @@ use native.Mathlib.Omega.{arith}
 use lib.Seq.{length-take-le}
 use Rattle.rows.specs.Rows.{rowsOf}
 use Rattle.search.specs.Filling.{foundIn, countOf}
-use Rattle.search.specs.OnTable.{withTable, fromFound}
+use Rattle.search.specs.OnTable.{withTable, fromFinding}
 use Rattle.search.specs.declared.filling.Filled.{Filled}
 use Rattle.search.proofs.Blocks.{front-blocks}
 use Rattle.search.proofs.Finding.{table-answers}
@@ -32,13 +32,13 @@ mul-end c =
 slice-reshare-prefix-with-table : tie.Need-slice-reshare-prefix-with-table
 slice-reshare-prefix-with-table c =
     let f = c .before .before .before .before .before .fill in
-    omega (arith, ap countOf (c .before .n .given .1), f .ensures .1, f .kept .1 .1 .0)
+    omega (arith, ap countOf (c .before .n .given .1), f .ensures .1, f .kept .1 .1 .1 .0)
 
 slice-aggregate-with-table : tie.Need-slice-aggregate-with-table
 slice-aggregate-with-table c =
     let f = c .before .before .before .before .before .before .fill in
     let n = c .before .before .n .given in
-    sym (length-take-le (8 * n .0 .0) _ (omega (arith, ap countOf (n .1), f .ensures .1, f .kept .1 .1 .0)))
+    sym (length-take-le (8 * n .0 .0) _ (omega (arith, ap countOf (n .1), f .ensures .1, f .kept .1 .1 .1 .0)))
 
 with-table-requires : tie.Need-with-table-requires
 with-table-requires c κs = search needs
@@ -50,7 +50,7 @@ returns : tie.Need-returns
 returns c =
     let f = c .before .before .before .before .fill in
     let a = c .before .before .before .before .before .before .before .before .args in
-    ap (λ (v : Filled). fromFound (a .q) (foundIn (f .last .1 .1 .0) v)) (sym (c .enum-told .given .1)) ∙ ap (fromFound (a .q)) (f .ensures .0) ∙ table-answers (a .q) (rowsOf (a .rows .now))
+    ap (λ (v : Filled). fromFinding (a .q) (foundIn (f .last .1 .1 .1 .0) v)) (sym (c .enum-told .given .1)) ∙ ap (fromFinding (a .q)) (f .ensures .0) ∙ table-answers (a .q) (rowsOf (a .rows .now))
 
 same-length-2 : tie.Need-same-length-2
 same-length-2 c = search needs
@@ -59,7 +59,7 @@ returns-2 : tie.Need-returns-2
 returns-2 c =
     let f = c .before .before .before .before .fill in
     let a = c .before .before .before .before .before .before .before .before .args in
-    ap (λ (v : Filled). fromFound (a .q) (foundIn (f .last .1 .1 .0) v)) (sym (c .enum-told2 .given .1)) ∙ ap (fromFound (a .q)) (f .ensures .0) ∙ table-answers (a .q) (rowsOf (a .rows .now))
+    ap (λ (v : Filled). fromFinding (a .q) (foundIn (f .last .1 .1 .1 .0) v)) (sym (c .enum-told2 .given .1)) ∙ ap (fromFinding (a .q)) (f .ensures .0) ∙ table-answers (a .q) (rowsOf (a .rows .now))
 
 same-length-3 : tie.Need-same-length-3
 same-length-3 c = search needs
@@ -69,11 +69,11 @@ returns-3 c =
     let f = c .before .before .before .before .before .before .before .fill in
     let a = c .before .before .before .before .before .before .before .before .before .before .before .args in
     let n = c .before .before .before .n .given in
-    let t = f .last .1 .1 .0 in
+    let t = f .last .1 .1 .1 .0 in
     c .with-table .ensures
-    ∙ ap (withTable (a .q)) (front-blocks t (n .0 .0) (omega (arith, ap countOf (n .1), f .ensures .1, f .kept .1 .1 .0)))
-    ∙ ap (λ (v : Filled). fromFound (a .q) (foundIn t v)) (sym (n .1))
-    ∙ ap (fromFound (a .q)) (f .ensures .0)
+    ∙ ap (withTable (a .q)) (front-blocks t (n .0 .0) (omega (arith, ap countOf (n .1), f .ensures .1, f .kept .1 .1 .1 .0)))
+    ∙ ap (λ (v : Filled). fromFinding (a .q) (foundIn t v)) (sym (n .1))
+    ∙ ap (fromFinding (a .q)) (f .ensures .0)
     ∙ table-answers (a .q) (rowsOf (a .rows .now))
 
 pub on-table-spec : {M : Type 1} → statement M

@@ -1,0 +1,7 @@
+pub mod Blocks
+pub mod Worst
+pub mod Tables
+pub mod Scanning
+pub mod Finding
+pub mod Turns
+pub mod Wholes
