@@ -15,7 +15,7 @@ or-stop (suc number) first rest e h = rw (← e)
 pub or-next : (number first rest later : ℕ) → number ≡ first → number ≡ 0 → later ≡ rest → later ≡ first or rest
 or-next number first rest later e h l = rw (← e, h) l
 
-answered-refused : {A : Type 0} (done : A) (refused : ℕ → A) (number m : ℕ) → m ≡ number → (m ≡ 0 → ⊥) → refused m ≡ answered done refused number
+pub answered-refused : {A : Type 0} (done : A) (refused : ℕ → A) (number m : ℕ) → m ≡ number → (m ≡ 0 → ⊥) → refused m ≡ answered done refused number
 answered-refused done refused zero m e h = absurd (h e)
 answered-refused done refused (suc number) m e h = ap refused e
 

@@ -1,5 +1,2 @@
-pub mod Numbers
-pub mod Entering
-pub mod Finding
-pub mod Halvings
-pub mod Tried
+pub mod ItselfEqual
+pub mod Refusing

@@ -1,4 +1,4 @@
-use Rattle.topp2_ra.proofs.Numbers.{equals-itself}
+use Rattle.topp2_ra.proofs.ItselfEqual.{itself-equal}
 use Rattle.topp2_ra.specs.Recovery.{noneNan}
 use Rattle.topp2_ra.proofs.inputs.none_nan.Statement.{statement}
 use Rattle.topp2_ra.proofs.inputs.none_nan.Tie as tie
@@ -7,7 +7,7 @@ returns : tie.Need-returns
 unfolding noneNan
 returns c =
     simp (
-      ← equals-itself,
+      ← itself-equal,
       c .if3 .taken,
       c .before .if2 .taken,
       c .before .before .if1 .taken,
@@ -17,7 +17,7 @@ returns-2 : tie.Need-returns-2
 unfolding noneNan
 returns-2 c =
     simp (
-      ← equals-itself,
+      ← itself-equal,
       c .if3 .left,
       c .before .if2 .taken,
       c .before .before .if1 .taken,
@@ -27,7 +27,7 @@ returns-3 : tie.Need-returns-3
 unfolding noneNan
 returns-3 c =
     simp (
-      ← equals-itself,
+      ← itself-equal,
       c .if2 .left,
       c .before .if1 .taken,
     )
@@ -36,7 +36,7 @@ returns-4 : tie.Need-returns-4
 unfolding noneNan
 returns-4 c =
     simp (
-      ← equals-itself,
+      ← itself-equal,
       c .if1 .left,
     )
 

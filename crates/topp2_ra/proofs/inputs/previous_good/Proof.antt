@@ -6,8 +6,8 @@ use Rattle.topp2_ra.proofs.inputs.previous_good.Tie as tie
 lower-end-requires : tie.Need-lower-end-requires
 lower-end-requires c κs = search needs
 
-capped-by-requires : tie.Need-capped-by-requires
-capped-by-requires c κs = search needs
+upper-end-requires : tie.Need-upper-end-requires
+upper-end-requires c κs = search needs
 
 finite-requires : tie.Need-finite-requires
 finite-requires c κs = search needs
@@ -29,7 +29,7 @@ returns c =
       ← c .before .inside-previous .ensures,
       ← c .before .before .finite2 .ensures,
       ← c .before .before .before .finite .ensures,
-      ← c .before .before .before .before .capped-by .ensures,
+      ← c .before .before .before .before .upper-end .ensures,
       ← c .before .before .before .before .before .lower-end .ensures,
     )
 
@@ -38,7 +38,7 @@ previous-good-spec =
     tie.close
     (tie.spec
     lower-end-requires
-    capped-by-requires
+    upper-end-requires
     finite-requires
     finite-requires-2
     inside-previous-requires

@@ -9,12 +9,12 @@ not-nan : (x : Float) → T (not (isNan x)) → x ≡ nan → ⊥
 unfolding isNan
 not-nan x h e = subst (λ (y : Float). T (not (isNan y))) e h
 
-pub equals-itself : (x : Float) → eq x x ≡ not (isNan x)
+pub itself-equal : (x : Float) → eq x x ≡ not (isNan x)
 unfolding eq ne isNan
-equals-itself nan = refl
-equals-itself (inf true) = refl
-equals-itself (inf false) = refl
-equals-itself (fin s m e) = go (eq (fin s m e) (fin s m e)) (λ h. not-nan (fin s m e) tt (differs-from-itself (fin s m e) h))
+itself-equal nan = refl
+itself-equal (inf true) = refl
+itself-equal (inf false) = refl
+itself-equal (fin s m e) = go (eq (fin s m e) (fin s m e)) (λ h. not-nan (fin s m e) tt (differs-from-itself (fin s m e) h))
   where
     go : (b : Bool) → (T (not b) → ⊥) → b ≡ true
     go true h = refl
