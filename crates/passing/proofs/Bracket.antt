@@ -1,7 +1,7 @@
 -- The halvings of recovery: they start between the middle, which passes, and the projected upper end, which was rejected, and end with a passing double and a rejected one that have no double between them.
 -- Assumes nothing.
 use mathlib.Core.Path.{_≡_, refl, sym, ap, subst}
-use mathlib.Core.Logic.{inl, inr}
+use mathlib.Core.Logic.{_⊎_, inl, inr}
 use mathlib.Core.List.{List}
 use mathlib.Core.Bool.{Bool, true, false, not, _||_}
 use Prim.Native.Nat.{ℕ, zero, suc, _+_, _^_, _≤_}
@@ -9,20 +9,20 @@ use lib.Dec.{T, T-not}
 use lib.Ieee.{Float, binary64, prec, size, ofBits, add, mul, le, lt, eq, fits}
 use lib.Ieee.Positive.{between}
 use Rattle.number.proofs.Fractions.{or-l, or-r, or-split}
-use Rattle.number.proofs.Order.{le-number, lt-le, eq-le, eq-ge, le-transitive, le-antisymmetric, lt-not-le, lt-or-le}
+use Rattle.number.proofs.Order.{holds, fails, le-number, lt-le, eq-le, eq-ge, le-transitive, le-antisymmetric, lt-not-le, lt-or-le}
 use Rattle.rows.specs.Rows.{Row}
 use Rattle.number.specs.Doubles as doubles
 use Rattle.limits.specs.Certificate.{passes, certificate}
-use Rattle.search.specs.Search.{middle, stops, replaced, halved, halvings}
+use Rattle.search.specs.Search.{middle, stops, replaced, halved}
 use Rattle.limits.specs.declared.request.Request.{Request}
 use Rattle.search.specs.declared.halving.Ends.{Ends}
 use Rattle.limits.specs.declared.certificate.Certificate.{Certificate}
 use Rattle.limits.specs.declared.certificate.Certificate.the-variants.{Passed, Failed}
-use Rattle.passing.proofs.Grid.{rnd}
+use Rattle.passing.proofs.Digits.{rnd}
 use Rattle.passing.proofs.Mean.{bound, settle}
 use Rattle.passing.proofs.Middle.{half, mean}
-use Rattle.passing.proofs.Halvings.{None, Gap, one-step, from-lower, upto-upper, inside, gap-above, gap-below}
-use Rattle.passing.proofs.Certified.{verdict, verdict-is}
+use Rattle.passing.proofs.Gaps.{None, Gap, one-step, from-lower, upto-upper, inside, gap-above, gap-below}
+use Rattle.passing.proofs.Verdicts.{verdict, verdict-is}
 
 -- the program's 1/2, and so its midpoint
 half-is : doubles.half ≡ half
@@ -132,15 +132,21 @@ module _ (q : Request) (rows : List Row) (high : Float) where
             settle (bound n) (g .0) t b (g .2) (g .3),
           )
 
-  pub halvings-end : (n z : ℕ) (e : Ends) (t : ℕ) → Bracket z e t → t ≤ bound n → Ended (halvings (certificate q rows) n (stops e) e)
-  unfolding halvings halved
-  halvings-end zero z e t B h = ended z e t B (one-step binary64 z (e .passing) (e .rejected) t (B .gap) h)
-  halvings-end (suc n) z e t B h =
+  -- what is carried from one halving to the next, with at most k left
+  abbrev pub Carried : ℕ → Ends → Type 0
+  Carried k e = (z : ℕ) × (t : ℕ) × Bracket z e t × (t ≤ bound k)
+
+  pub carried-on : (k : ℕ) (e : Ends) → Carried (suc k) e → stops e ≡ false → Carried k (halved (certificate q rows) e)
+  unfolding halved
+  carried-on k e w b =
       let m = middle (e .passing) (e .rejected) in
-      go (stops e) (λ b. b) (λ b. b) (λ b.
-      let r = replaced-bracket z e t n (certificate q rows m) (verdict-is q rows m) B b h in
-      halvings-end n z (halved (certificate q rows) e) (r .0) (r .1) (r .2))
+      let r = replaced-bracket (w .0) e (w .1) k (certificate q rows m) (verdict-is q rows m) (w .2) (going-on (stops e) b) (w .3) in
+      (w .0, r .0, r .1, r .2)
     where
-      go : (b : Bool) → (T b → T (stops e)) → (T (not b) → T (not (stops e))) → (T (not (stops e)) → Ended (halvings (certificate q rows) n (stops (halved (certificate q rows) e)) (halved (certificate q rows) e))) → Ended (halvings (certificate q rows) (suc n) b e)
-      go true s g ih = ended z e t B (stopped z e t (B .gap) (s tt))
-      go false s g ih = ih (g tt)
+      going-on : (b : Bool) → b ≡ false → T (not b)
+      going-on true h = absurd (fails h tt)
+      going-on false h = tt
+
+  pub carried-end : (k : ℕ) (e : Ends) → Carried k e → (k ≡ 0) ⊎ (stops e ≡ true) → Ended e
+  carried-end k e w (inl h) = ended (w .0) e (w .1) (w .2) (one-step binary64 (w .0) (e .passing) (e .rejected) (w .1) (w .2 .gap) (subst (λ (k : ℕ). w .1 ≤ bound k) h (w .3)))
+  carried-end k e w (inr h) = ended (w .0) e (w .1) (w .2) (stopped (w .0) e (w .1) (w .2 .gap) (holds h))

@@ -9,13 +9,13 @@ use lib.Ieee.{Float, binary64, le, lt, fits}
 use lib.Ieee.Scale.{finite}
 use Rattle.number.specs.Leaves.{nextDown}
 use Rattle.number.specs.Units.{unitsOf}
-use Rattle.number.proofs.Order.{nought, number, finite-number, le-number, lt-number, lt-le, le-reflexive, le-transitive, lt-not-le, lt-or-le, between-finite}
+use Rattle.number.proofs.Order.{fails, nought, number, finite-number, le-number, lt-number, lt-le, le-reflexive, le-transitive, lt-not-le, lt-or-le, between-finite}
 use Rattle.number.proofs.Neighbour.{next-fits, next-less, next-nearest}
 use Rattle.rows.specs.Rows.{Row, rowsOf}
 use Rattle.limits.specs.Bounds.{upper}
 use Rattle.limits.specs.Certificate.{passes, certificate}
 use Rattle.limits.specs.Projection.{projected}
-use Rattle.search.specs.Search.{middle, stops, halvings, afterMiddle, withMiddle, tryMiddle, neighbours, tryNeighbours, searched}
+use Rattle.search.specs.Search.{middle}
 use Rattle.topp2_ra.specs.Recovery.{recovered}
 use Rattle.limits.specs.declared.request.Request.{Request}
 use Rattle.search.specs.declared.answer.Answer.{Answer}
@@ -28,9 +28,10 @@ use Rattle.rows.proofs.Within.{finite-above}
 use Rattle.passing.specs.Demand.{Doubles, smallest, Greatest}
 use Rattle.passing.proofs.NoGap.{zero-is, passes-between, no-gap}
 use Rattle.passing.proofs.Brought.{high-fits, low-from-zero}
-use Rattle.passing.proofs.Halvings.{Gap}
-use Rattle.passing.proofs.Certified.{verdict, verdict-is, of-searched, of-recovered}
-use Rattle.passing.proofs.Bracket.{middle-is, Bracket, Ended, halvings-end}
+use Rattle.passing.proofs.Gaps.{Gap}
+use Rattle.passing.proofs.Verdicts.{passed, failed}
+use Rattle.passing.proofs.Ways.{Ways, by-recovery}
+use Rattle.passing.proofs.Bracket.{middle-is, Bracket, Ended, Carried, carried-on, carried-end}
 use Rattle.passing.proofs.Start.{middle-upto, first-gap}
 
 module _ (q : Request) (rows : List Row) where
@@ -54,6 +55,9 @@ module _ (q : Request) (rows : List Row) where
   abbrev Answers : Answer → Type 0
   Answers (Certified x n r t) = (x ≡ upper q → ⊥) → Greatest q rows x
   Answers (Refused k) = Unit
+
+  in-order : T (finite low) → T (finite high) → T (not (lt high low)) → T (le low high)
+  in-order L F o = elim (lt-or-le high low (finite-number high F) (finite-number low L)) [ inl l ↦ absurd (T-not (lt high low) o l) | inr g ↦ g ]
 
   module _ (D : Doubles q) (large : T (le smallest high)) (L : T (finite low)) (F : T (finite high)) (order : T (le low high)) where
     -- ---- by halving
@@ -86,19 +90,6 @@ module _ (q : Request) (rows : List Row) where
           upto-high = le-reflexive high (finite-number high F);
         }
 
-    middle-answers : (t : ℕ) → T (not (passes q rows high)) → Answers (tryMiddle (certificate q rows) s t)
-    unfolding tryMiddle withMiddle afterMiddle
-    middle-answers t f = go (certificate q rows m) (verdict-is q rows m)
-      where
-        m : Float
-        m = middle low high
-
-        go : (c : Certificate) → verdict c ≡ passes q rows m → Answers (withMiddle (certificate q rows) s t c)
-        go Failed v = tt
-        go (Passed n r) v = λ cap.
-            let e : Ends = record { passing = m; «worst_normalized» = n; «worst_raw» = r; rejected = high; tried = t + 1 } in
-            ended-greatest (halvings (certificate q rows) 64 (stops e) e) (halvings-end q rows high 64 (unitsOf binary64 m) e (2 ^ 53) (start n r (t + 1) f (subst T v tt)) (lit≤ tt))
-
     -- ---- by neighbours
 
     -- x is a double not above high, and what passes, up to high, is not above x
@@ -121,40 +112,26 @@ module _ (q : Request) (rows : List Row) where
           ];
         }
 
+    from-low : (x : Float) → Upto x → lt x low ≡ false → T (le low x)
+    from-low x U b = elim (lt-or-le x low (le-number x high (U .not-above) .0) (finite-number low L)) [ inl l ↦ absurd (fails b l) | inr g ↦ g ]
+
     found : (x : Float) → T (passes q rows x) → Upto x → Greatest q rows x
     found x p U = record { passing = p; not-above = U .not-above; greatest = U .covers }
 
-    next-answers : (n : ℕ) (b : Bool) (c : Certificate) (x : Float) (t : ℕ) → b ≡ lt x low → verdict c ≡ passes q rows x → T (not (passes q rows high)) → Upto x → Answers (neighbours (certificate q rows) s n b c x t)
-    unfolding neighbours
-    next-answers zero b c x t e v f U = middle-answers t f
-    next-answers (suc n) true c x t e v f U = middle-answers t f
-    next-answers (suc n) false (Passed a r) x t e v f U = λ cap. found x (subst T v tt) U
-    next-answers (suc n) false Failed x t e v f U =
-        let y = nextDown binary64 x in
-        let from : T (le low x) = elim (lt-or-le x low (le-number x high (U .not-above) .0) (finite-number low L)) [ inl l ↦ absurd (subst T (sym e) l) | inr g ↦ g ] in
-        next-answers n (lt y low) (certificate q rows y) y (t + 1) refl (verdict-is q rows y) f (next x U from (subst (λ (b : Bool). T (not b)) v tt))
-
-    high-covers : Upto high
-    high-covers = record { fit = high-fits q D rows; not-above = le-reflexive high (finite-number high F); covers = λ y G p h. h }
-
-    -- high itself, and then its neighbours
-    first-answers : (n : ℕ) (b : Bool) (c : Certificate) → b ≡ lt high low → verdict c ≡ passes q rows high → Answers (neighbours (certificate q rows) s (suc n) b c high 1)
-    unfolding neighbours
-    first-answers n true c e v = absurd (lt-not-le high low (subst T e tt) order)
-    first-answers n false (Passed a r) e v = λ cap. found high (subst T v tt) high-covers
-    first-answers n false Failed e v =
-        let y = nextDown binary64 high in
-        let f = subst (λ (b : Bool). T (not b)) v tt in
-        next-answers n (lt y low) (certificate q rows y) y 2 refl (verdict-is q rows y) f (next high high-covers order f)
-
-  searched-answers : Doubles q → T (le smallest high) → Answers (searched (certificate q rows) s)
-  unfolding tryNeighbours
-  searched-answers D large = of-searched Answers (λ k. tt) (certificate q rows) s (λ L F o.
-      let order : T (le low high) = elim (lt-or-le high low (finite-number high F) (finite-number low L)) [ inl l ↦ absurd (T-not (lt high low) o l) | inr g ↦ g ] in
-      first-answers D large L F order 4 (lt high low) (certificate q rows high) refl (verdict-is q rows high))
+    ways : Ways (certificate q rows) s Answers
+    ways = record {
+      Trying = λ x t. Upto x;
+      Halving = Carried q rows high;
+      first = record { fit = high-fits q D rows; not-above = le-reflexive high (finite-number high F); covers = λ y G p h. h };
+      next = λ x t U b f. next x U (from-low x U b) (failed q rows x f);
+      found = λ x n r t U e a b cap. found x (passed q rows x n r e) U;
+      start = λ n r t f e a b. (unitsOf binary64 (middle low high), 2 ^ 53, start n r (t + 1) (failed q rows high f) (passed q rows (middle low high) n r e), lit≤ tt);
+      halve = carried-on q rows high;
+      ended = λ k e w b cap. ended-greatest e (carried-end q rows high k e w b);
+    }
 
 -- "that speed is the greatest passing double not above that end"
 pub greatest : (q : Request) (l : List Float) (x n r : Float) (t : ℕ) → Doubles q → recovered q l ≡ Certified x n r t → (x ≡ upper q → ⊥) → T (le smallest (projected q (rowsOf l) .high)) → Greatest q (rowsOf l) x
 greatest q l x n r t D e cap large =
     let rows = rowsOf l in
-    subst (Answers q rows) e (of-recovered (Answers q rows) (λ k. tt) q l (λ n r c is-cap. absurd (is-cap refl)) (searched-answers q rows D large)) cap
+    subst (Answers q rows) e (by-recovery (Answers q rows) (λ k. tt) q l (λ n r c is-cap. absurd (is-cap refl)) (λ L F o. ways q rows D large L F (in-order q rows L F o))) cap

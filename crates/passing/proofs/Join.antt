@@ -32,9 +32,9 @@ all-joined p (w ∷ l) m = go (p w) (all-joined p l m)
 pub join : (q : Request) (l m : List Float) (x : Float) → length l % 3 ≡ 0 → passes q (rowsOf (l ++ m)) x ≡ (passes q (rowsOf l) x && passes q (rowsOf m) x)
 unfolding passes
 join q l m x e =
-    ap (λ (rows : List Row). between q x && all (admits q x) rows) (rows-joined l m e)
-    ∙ ap (λ (c : Bool). between q x && c) (all-joined (admits q x) (rowsOf l) (rowsOf m))
-    ∙ go (between q x) (all (admits q x) (rowsOf l)) (all (admits q x) (rowsOf m))
+    ap (λ (rows : List Row). between q x && all (admits (q .tolerances .feas) (q .«a_prev») x) rows) (rows-joined l m e)
+    ∙ ap (λ (c : Bool). between q x && c) (all-joined (admits (q .tolerances .feas) (q .«a_prev») x) (rowsOf l) (rowsOf m))
+    ∙ go (between q x) (all (admits (q .tolerances .feas) (q .«a_prev») x) (rowsOf l)) (all (admits (q .tolerances .feas) (q .«a_prev») x) (rowsOf m))
   where
     -- the bounds are tested in both
     go : (b u v : Bool) → (b && (u && v)) ≡ ((b && u) && (b && v))

@@ -4,12 +4,17 @@ pub mod Join
 pub mod Gathered
 pub mod Brought
 pub mod RowLaw
+-- What holds of every answer, by the ways to it.
+pub mod Verdicts
+pub mod Ways
+pub mod Soundness
 -- The greatest passing double: numbers of p digits, the middle, the halvings, the whole search.
-pub mod Grid
+pub mod Digits
 pub mod Mean
 pub mod Middle
-pub mod Halvings
-pub mod Certified
+pub mod Gaps
 pub mod Bracket
 pub mod Start
 pub mod Greatest
+-- All four sentences.
+pub mod Whole

@@ -9,7 +9,7 @@ use lib.Pow.{pow-add, pow-pos, pow-mono}
 use lib.Ieee.{size}
 use lib.Ieee.Digits.{size-lt, size-le}
 use Rattle.number.proofs.Rounded.{sub-mul}
-use Rattle.passing.proofs.Grid.{le-or-lt, cut, rnd, Short, below-short, power-short, upto-short, many, over, rnd-ge, rnd-le, near-low, rnd-self, mean-between}
+use Rattle.passing.proofs.Digits.{le-or-lt, cut, rnd, Short, below-short, power-short, upto-short, many, over, rnd-ge, rnd-le, near-low, rnd-self, mean-between}
 
 -- h is half of a, and where a is odd the even one of the two next to it
 pub record Half (a h : ℕ) : Type 0 where

@@ -21,7 +21,7 @@ use Rattle.number.specs.Leaves.{negative}
 use Rattle.number.proofs.Fractions.{ring, lt→values, values→lt}
 use Rattle.number.proofs.Order.{lt-not-le}
 use Rattle.number.proofs.Patterns.{sizeAt, tiny, normal, sizes-rise, units-of-value, pattern-below, units-value}
-use Rattle.passing.proofs.Grid.{le-or-lt, cut, rnd, Short, below-short, many, rnd-le, rnd-self}
+use Rattle.passing.proofs.Digits.{le-or-lt, cut, rnd, Short, below-short, many, rnd-le, rnd-self}
 use Rattle.passing.proofs.Mean.{Half, mean-within}
 
 -- ---- a value that is a whole number of units

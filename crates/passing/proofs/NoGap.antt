@@ -128,22 +128,21 @@ passed tol lim a b c w =
     (and-i (finite a) (finite b && finite c) (w .first .0) (and-i (finite b) (finite c) (w .third .0) (w .second .0))))
     (and-i (le a tol) (le b tol && le c lim) (w .first .1) (and-i (le b tol) (le c lim) (w .third .1) (w .second .1)))
 
-module _ (q : Request) (w : Row) (x y z : Float) (m : Mid x y z) where
+module _ (tol a : Float) (w : Row) (x y z : Float) (m : Mid x y z) where
   abbrev Residuals : Float → Type 0
-  Residuals v = Meets (q .«feas_tol») (rawTol q w) (normalized q v w) (rawNormalized q v w) (raw q v w)
+  Residuals v = Meets tol (rawTol tol w) (normalized a v w) (rawNormalized a v w) (raw a v w)
 
   residuals-mid : T (finite (norm w)) → T (not (empty w)) → Residuals x → Residuals z → Residuals y
   residuals-mid F N p r =
-      let tol = q .«feas_tol» in
-      let first : Mid (normalized q x w) (normalized q y w) (normalized q z w) =
-      mid-line (w .curr ⊗ inv w) ((w .prev ⊗ inv w) ⊗ (q .«a_prev»)) (w .rhs ⊗ inv w) x y z (p .first .0) (r .first .0) m in
-      let second : Mid (raw q x w) (raw q y w) (raw q z w) = mid-line (w .curr) (w .prev ⊗ (q .«a_prev»)) (w .rhs) x y z (p .second .0) (r .second .0) m in
-      let third : Mid (rawNormalized q x w) (rawNormalized q y w) (rawNormalized q z w) = mid-div (norm w) (raw q x w) (raw q y w) (raw q z w) F N (p .second .0) (r .second .0) second in
+      let first : Mid (normalized a x w) (normalized a y w) (normalized a z w) =
+      mid-line (w .curr ⊗ inv w) ((w .prev ⊗ inv w) ⊗ a) (w .rhs ⊗ inv w) x y z (p .first .0) (r .first .0) m in
+      let second : Mid (raw a x w) (raw a y w) (raw a z w) = mid-line (w .curr) (w .prev ⊗ a) (w .rhs) x y z (p .second .0) (r .second .0) m in
+      let third : Mid (rawNormalized a x w) (rawNormalized a y w) (rawNormalized a z w) = mid-div (norm w) (raw a x w) (raw a y w) (raw a z w) F N (p .second .0) (r .second .0) second in
       record {
         lim-finite = p .lim-finite;
-        first = mid-under tol (normalized q x w) (normalized q y w) (normalized q z w) first (p .first) (r .first);
-        third = mid-under tol (rawNormalized q x w) (rawNormalized q y w) (rawNormalized q z w) third (p .third) (r .third);
-        second = mid-under (rawTol q w) (raw q x w) (raw q y w) (raw q z w) second (p .second) (r .second);
+        first = mid-under tol (normalized a x w) (normalized a y w) (normalized a z w) first (p .first) (r .first);
+        third = mid-under tol (rawNormalized a x w) (rawNormalized a y w) (rawNormalized a z w) third (p .third) (r .third);
+        second = mid-under (rawTol tol w) (raw a x w) (raw a y w) (raw a z w) second (p .second) (r .second);
       }
 
   norm-finite : T (numbersFinite w) → T (finite (norm w))
@@ -152,9 +151,9 @@ module _ (q : Request) (w : Row) (x y z : Float) (m : Mid x y z) where
 
   -- the verdict, but for the row's own numbers
   abbrev verdict : Float → Bool → Bool
-  verdict v b = cond b (le zero (w .rhs)) (allWithin (q .«feas_tol») (rawTol q w) (normalized q v w) (rawNormalized q v w) (raw q v w))
+  verdict v b = cond b (le zero (w .rhs)) (allWithin tol (rawTol tol w) (normalized a v w) (rawNormalized a v w) (raw a v w))
 
-  admits-mid : T (admits q x w) → T (admits q z w) → T (admits q y w)
+  admits-mid : T (admits tol a x w) → T (admits tol a z w) → T (admits tol a y w)
   unfolding admits
   admits-mid p r =
       let n = and-l (numbersFinite w) (verdict x (empty w)) p in
@@ -164,18 +163,17 @@ module _ (q : Request) (w : Row) (x y z : Float) (m : Mid x y z) where
       go : (b : Bool) → (T (not b) → T (not (empty w))) → T (finite (norm w)) → T (verdict x b) → T (verdict z b) → T (verdict y b)
       go true N F p r = p
       go false N F p r =
-          let tol = q .«feas_tol» in
-          let lim = rawTol q w in
-          passed tol lim (normalized q y w) (rawNormalized q y w) (raw q y w)
-          (residuals-mid F (N tt) (tested tol lim (normalized q x w) (rawNormalized q x w) (raw q x w) p) (tested tol lim (normalized q z w) (rawNormalized q z w) (raw q z w) r))
+              let lim = rawTol tol w in
+          passed tol lim (normalized a y w) (rawNormalized a y w) (raw a y w)
+          (residuals-mid F (N tt) (tested tol lim (normalized a x w) (rawNormalized a x w) (raw a x w) p) (tested tol lim (normalized a z w) (rawNormalized a z w) (raw a z w) r))
 
-all-mid : (q : Request) (x y z : Float) → Mid x y z → (rows : List Row) → T (all (admits q x) rows) → T (all (admits q z) rows) → T (all (admits q y) rows)
+all-mid : (tol a : Float) (x y z : Float) → Mid x y z → (rows : List Row) → T (all (admits tol a x) rows) → T (all (admits tol a z) rows) → T (all (admits tol a y) rows)
 unfolding all
-all-mid q x y z m [] p r = tt
-all-mid q x y z m (w ∷ rows) p r =
-    and-i (admits q y w) (all (admits q y) rows)
-    (admits-mid q w x y z m (and-l (admits q x w) (all (admits q x) rows) p) (and-l (admits q z w) (all (admits q z) rows) r))
-    (all-mid q x y z m rows (and-r (admits q x w) (all (admits q x) rows) p) (and-r (admits q z w) (all (admits q z) rows) r))
+all-mid tol a x y z m [] p r = tt
+all-mid tol a x y z m (w ∷ rows) p r =
+    and-i (admits tol a y w) (all (admits tol a y) rows)
+    (admits-mid tol a w x y z m (and-l (admits tol a x w) (all (admits tol a x) rows) p) (and-l (admits tol a z w) (all (admits tol a z) rows) r))
+    (all-mid tol a x y z m rows (and-r (admits tol a x w) (all (admits tol a x) rows) p) (and-r (admits tol a z w) (all (admits tol a z) rows) r))
 
 -- ---- the bounds
 
@@ -196,13 +194,17 @@ between-mid q x y z h k p r =
     and-i (finite y) (le (lower q) y && le y (upper q)) (between-finite x y z (p .is-finite) (r .is-finite) h k)
     (and-i (le (lower q) y) (le y (upper q)) (le-transitive (lower q) x y (p .from-lower) h) (le-transitive y z (upper q) k (r .upto-upper)))
 
+-- every row admits x
+abbrev admitted : Request → List Row → Float → Bool
+admitted q rows x = all (admits (q .tolerances .feas) (q .«a_prev») x) rows
+
 pub passes-between : (q : Request) (rows : List Row) (x : Float) → T (passes q rows x) → Between q x
 unfolding passes
-passes-between q rows x p = is-between q x (and-l (between q x) (all (admits q x) rows) p)
+passes-between q rows x p = is-between q x (and-l (between q x) (admitted q rows x) p)
 
 -- "Passing doubles have no gap": what lies between two that pass passes
 pub no-gap : (q : Request) (rows : List Row) (x y z : Float) → T (le x y) → T (le y z) → T (passes q rows x) → T (passes q rows z) → T (passes q rows y)
 unfolding passes
 no-gap q rows x y z h k p r =
-    and-i (between q y) (all (admits q y) rows) (between-mid q x y z h k (passes-between q rows x p) (passes-between q rows z r))
-    (all-mid q x y z (inl (h, k)) rows (and-r (between q x) (all (admits q x) rows) p) (and-r (between q z) (all (admits q z) rows) r))
+    and-i (between q y) (admitted q rows y) (between-mid q x y z h k (passes-between q rows x p) (passes-between q rows z r))
+    (all-mid (q .tolerances .feas) (q .«a_prev») x y z (inl (h, k)) rows (and-r (between q x) (admitted q rows x) p) (and-r (between q z) (admitted q rows z) r))

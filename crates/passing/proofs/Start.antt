@@ -18,9 +18,9 @@ use Rattle.number.proofs.Order.{nought, number, finite-number, le-transitive}
 use Rattle.number.proofs.Monotone.{add-keeps, mul-keeps, add-number, mul-number}
 use Rattle.number.proofs.Patterns.{units-of-value}
 use Rattle.passing.specs.Demand.{smallest}
-use Rattle.passing.proofs.Grid.{cut, rnd, Short, many, rnd-le, rnd-self}
+use Rattle.passing.proofs.Digits.{cut, rnd, Short, many, rnd-le, rnd-self}
 use Rattle.passing.proofs.Middle.{At, at-le, le-at, Held, units-at, units-pos, units-short, units-fine, add-at, half, Halved, half-of, mean}
-use Rattle.passing.proofs.Halvings.{Gap}
+use Rattle.passing.proofs.Gaps.{Gap}
 
 smallest-is : smallest ≡ fin false 1 (negsuc 1020)
 unfolding ofBits

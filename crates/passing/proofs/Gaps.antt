@@ -8,7 +8,7 @@ use lib.Dec.{T}
 use lib.Ieee.{Float, Format, prec, lt, le}
 use lib.Ieee.Fits.{two}
 use Rattle.number.specs.Units.{unitsOf}
-use Rattle.passing.proofs.Grid.{cut, rnd, over, rnd-short, off-up, off-down}
+use Rattle.passing.proofs.Digits.{cut, rnd, over, rnd-short, off-up, off-down}
 use Rattle.passing.proofs.Mean.{halves-between, unit-le, Closer, closer}
 use Rattle.passing.proofs.Middle.{Held, units-at, units-short, at-le, at-lt, lt-at, some-digits, mean, Mean, mean-of}
 
