@@ -8,7 +8,7 @@ use lib.Ieee.{Float, binary64, lt, le, ofBits}
 use lib.Ieee.Fits.{and-l, and-r}
 use lib.Ieee.Scale.{finite}
 use Rattle.number.specs.Leaves.{maximum}
-use Rattle.number.specs.Doubles.{zero, _⊕_, _⊖_, _⊗_}
+use Rattle.number.specs.Doubles.{zero, _⊕_, _⊗_}
 use Rattle.number.proofs.Order.{holds, fails, number, finite-number, lt-or-le, lt-not-le}
 use Rattle.number.proofs.Monotone.{add-finite, sub-finite, mul-finite}
 use Rattle.rows.specs.Rows.{Row, fold, all}

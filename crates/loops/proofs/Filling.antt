@@ -1,12 +1,12 @@
 -- One more turn of a loop that fills lent memory from the front.
 use mathlib.Core.Path.{_≡_, refl, sym, ap, _∙_}
 use mathlib.Core.Logic.{⊎-elim}
-use mathlib.Core.List.{List, [], _∷_, _++_, append-nil}
+use mathlib.Core.List.{List, [], _∷_, _++_}
 use Prim.Native.Nat.{ℕ, zero, suc, _+_, _-_, _<_, _≤_}
 use native.Mathlib.Numerals.{add-one}
 use native.Mathlib.Nat.{eq-or-lt-of-le, le-of-suc-le-suc}
 use native.Mathlib.Omega.{arith}
-use lib.ListN.{length, getD, set, drop, length-append, length-drop, length-set, drop-of-length-le, List·getD-append}
+use lib.ListN.{length, getD, set, drop, length-append, length-drop, length-set, List·getD-append}
 use lib.Seq.{drop-cons, set-at, append-snoc, drop-append-add, drop-drop, drop-set-lt, set-set, getD-at}
 use lib.Ieee.{Float, nan}
 use Rattle.loops.specs.Upto.{table, filled, at}

@@ -1,7 +1,7 @@
 -- Halving the gap between two values above zero, of which the upper is at most twice the lower: where a value lies strictly between, the middle does; each step leaves half the gap but for two units;
 -- so that 64 steps leave nothing between. In any format. Assumes nothing.
 use mathlib.Core.Path.{_≡_}
-use Prim.Native.Nat.{ℕ, suc, _+_, _-_, _*_, _^_, _≤_, _<_}
+use Prim.Native.Nat.{ℕ, suc, _+_, _*_, _^_, _≤_, _<_}
 use native.Mathlib.Nat.{le-trans, le-of-lt, lt-of-mul-lt-mul-right, mul-le-mul-right, suc-mul}
 use native.Mathlib.Omega.{arith}
 use lib.Dec.{T}

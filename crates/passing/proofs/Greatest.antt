@@ -2,14 +2,14 @@
 use mathlib.Core.Path.{_≡_, refl, sym, subst}
 use mathlib.Core.Logic.{inl, inr}
 use mathlib.Core.List.{List}
-use mathlib.Core.Bool.{Bool, true, false, not}
-use Prim.Native.Nat.{ℕ, zero, suc, _+_, _^_}
+use mathlib.Core.Bool.{false, not}
+use Prim.Native.Nat.{ℕ, _+_, _^_}
 use lib.Dec.{T, T-not, lit≤}
 use lib.Ieee.{Float, binary64, le, lt, fits}
 use lib.Ieee.Scale.{finite}
 use Rattle.number.specs.Leaves.{nextDown}
 use Rattle.number.specs.Units.{unitsOf}
-use Rattle.number.proofs.Order.{fails, nought, number, finite-number, le-number, lt-number, lt-le, le-reflexive, le-transitive, lt-not-le, lt-or-le, between-finite}
+use Rattle.number.proofs.Order.{fails, nought, number, finite-number, le-number, lt-number, lt-le, le-reflexive, le-transitive, lt-or-le, between-finite}
 use Rattle.number.proofs.Neighbour.{next-fits, next-less, next-nearest}
 use Rattle.rows.specs.Rows.{Row, rowsOf}
 use Rattle.limits.specs.Bounds.{upper}
@@ -22,8 +22,6 @@ use Rattle.search.specs.declared.answer.Answer.{Answer}
 use Rattle.search.specs.declared.answer.Answer.the-variants.{Certified, Refused}
 use Rattle.limits.specs.declared.projection.Span.{Span}
 use Rattle.search.specs.declared.halving.Ends.{Ends}
-use Rattle.limits.specs.declared.certificate.Certificate.{Certificate}
-use Rattle.limits.specs.declared.certificate.Certificate.the-variants.{Passed, Failed}
 use Rattle.rows.proofs.Within.{finite-above}
 use Rattle.passing.specs.Demand.{Doubles, smallest, Greatest}
 use Rattle.passing.proofs.NoGap.{zero-is, passes-between, no-gap}

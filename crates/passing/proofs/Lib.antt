@@ -5,6 +5,7 @@ pub mod Gathered
 pub mod Brought
 pub mod RowLaw
 -- What holds of every answer, by the ways to it.
+pub mod Reports
 pub mod Verdicts
 pub mod Ways
 pub mod Soundness

@@ -1,6 +1,6 @@
--- Whatever recovery certifies passes, and is a double; and from 1 to 71 candidates are tried: the cap, up to five from the projected end down, the middle, and at most 64
+-- Whatever recovery certifies passes, and is a double; no refusal has the number 0; and from 1 to 71 candidates are tried: the cap, up to five from the projected end down, the middle, and at most 64
 -- halvings. Assumes nothing.
-use Prim.Native.Nat.{ℕ, _+_, _≤_}
+use Prim.Native.Nat.{ℕ, zero, suc, _+_, _≤_}
 use mathlib.Core.Path.{_≡_, refl, subst}
 use mathlib.Core.List.{List}
 use native.Mathlib.Omega.{arith}
@@ -21,11 +21,12 @@ use Rattle.search.specs.declared.halving.Ends.{Ends}
 use Rattle.search.specs.declared.answer.Answer.{Answer}
 use Rattle.search.specs.declared.answer.Answer.the-variants.{Certified, Refused}
 use Rattle.search.proofs.Turns.{halved-tried}
-use Rattle.topp2_ra.specs.Recovery.{recovered, TriedIn}
+use Rattle.topp2_ra.specs.Recovery.{recovered}
 use Rattle.passing.specs.Demand.{Doubles, Sound}
 use Rattle.passing.proofs.Verdicts.{passed}
 use Rattle.passing.proofs.Brought.{upper-fits, high-fits}
 use Rattle.passing.proofs.Ways.{by-recovery}
+use Rattle.passing.proofs.Reports.{Reported}
 
 -- the passing end after a halving: the midpoint, where it passes, or the end that it was
 replaced-end : (Q : Float → Type 0) (e : Ends) (m : Float) (c : Certificate) → ((n r : Float) → c ≡ Passed n r → Q m) → Q (e .passing) → Q (replaced e m c .passing)
@@ -69,8 +70,12 @@ module _ (q : Request) (l : List Float) where
   double D =
       speed-has (λ x. T (fits binary64 x)) (λ x. T (fits binary64 x)) (λ x n r w e. w) (upper-fits q D) (high-fits q D rows) (λ x w. next-fits binary64 x w) (λ x y. add-fits binary64 _ _)
 
-  tried : TriedIn (recovered q l)
-  tried =
+  abbrev TriedIn : Answer → Type 0
+  TriedIn (Certified x n r t) = (1 ≤ t) × (t ≤ 71)
+  TriedIn (Refused k) = Unit
+
+  tried-in : TriedIn (recovered q l)
+  tried-in =
       by-recovery TriedIn (λ k. tt) q l (λ n r e. (omega arith, omega arith)) (λ L F o. record {
         Trying = λ x t. Unit;
         Halving = λ k e. (1 ≤ e .tried) × (e .tried + k ≤ 71);
@@ -82,9 +87,33 @@ module _ (q : Request) (l : List Float) where
         ended = λ k e w b. (w .0, omega arith);
       })
 
-  pub sound : Doubles q → Sound q l
-  sound D = record {
-    passing = λ x n r t e. subst (Speed (λ x. T (passes q rows x))) e passing;
-    double = λ x n r t e. subst (Speed (λ x. T (fits binary64 x))) e (double D);
-    tried = tried;
+  abbrev Numbered : Answer → Type 0
+  Numbered (Certified x n r t) = Unit
+  Numbered (Refused zero) = ⊥
+  Numbered (Refused (suc k)) = Unit
+
+  numbered : Numbered (recovered q l)
+  numbered =
+      by-recovery Numbered (λ k. tt) q l (λ n r e. tt) (λ L F o. record {
+        Trying = λ x t. Unit;
+        Halving = λ k e. Unit;
+        first = tt;
+        next = λ x t w b f. tt;
+        found = λ x n r t w e a b. tt;
+        start = λ n r t f e a b. tt;
+        halve = λ k e w b. tt;
+        ended = λ k e w b. tt;
+      })
+
+  -- no refusal has the number 0
+  pub refusal-numbered : recovered q l ≡ Refused 0 → ⊥
+  refusal-numbered e = subst Numbered e numbered
+
+  pub speed-double : (x n r : Float) (t : ℕ) → Doubles q → recovered q l ≡ Certified x n r t → T (fits binary64 x)
+  speed-double x n r t D e = subst (Speed (λ x. T (fits binary64 x))) e (double D)
+
+  pub sound : (number speed tried : ℕ) → Reported q l number speed tried → Sound q l number speed tried
+  sound number speed tried R = record {
+    passing = λ z. subst (Speed (λ x. T (passes q rows x))) (R z .2) passing;
+    tried-in = λ z. subst TriedIn (R z .2) tried-in;
   }

@@ -2,7 +2,7 @@
 -- is at least that half and not above that end. Assumes nothing.
 use mathlib.Core.Path.{_≡_, refl, sym, ap, _∙_, subst}
 use mathlib.Core.Bool.{true, false}
-use Prim.Native.Nat.{ℕ, _+_, _-_, _*_, _^_, _≤_}
+use Prim.Native.Nat.{ℕ, _+_, _*_, _^_, _≤_}
 use native.Mathlib.Nat.{le-refl, le-trans, le-of-eq, le-of-lt, zero-add}
 use native.Mathlib.Omega.{arith}
 use lib.IntN.{negsuc}

@@ -10,7 +10,6 @@ use lib.Ieee.{Float, binary64, lt}
 use lib.Ieee.Fits.{and-l, and-r}
 use lib.Ieee.Scale.{finite}
 use Rattle.number.specs.Leaves.{nextDown}
-use Rattle.number.proofs.Order.{fails}
 use Rattle.refusals.specs.Outcome.{answered}
 use Rattle.rows.specs.Rows.{Row, rowsOf, any}
 use Rattle.limits.specs.Bounds.{upper}
@@ -43,7 +42,7 @@ pub record Ways (cert : Asked) (s : Span) (P : Answer → Type 0) : Type 1 where
   pub halve : (k : ℕ) (e : Ends) → Halving (suc k) e → stops e ≡ false → Halving k (halved cert e)
   pub ended : (k : ℕ) (e : Ends) → Halving k e → (k ≡ 0) ⊎ (stops e ≡ true) → P (certifiedBy e)
 
-module _ (P : Answer → Type 0) (refused : (k : ℕ) → P (Refused k)) where
+module _ (P : Answer → Type 0) (refused : (k : ℕ) → P (Refused (suc k))) where
   either : (b : Bool) (x y : Answer) → (T b → P x) → (T (not b) → P y) → P (cond b x y)
   either true x y h k = h tt
   either false x y h k = k tt
@@ -60,7 +59,7 @@ module _ (P : Answer → Type 0) (refused : (k : ℕ) → P (Refused k)) where
     by-middle t f l h = go (cert (middle (s .low) (s .high))) refl
       where
         go : (c : Certificate) → cert (middle (s .low) (s .high)) ≡ c → P (withMiddle cert s t c)
-        go Failed e = refused 9
+        go Failed e = refused 8
         go (Passed n r) e = by-halvings 64 (stops (startOf s n r t)) (startOf s n r t) refl (W .start n r t f e l h)
 
     by-neighbours : (n : ℕ) (b : Bool) (c : Certificate) (x : Float) (t : ℕ) → lt x (s .low) ≡ b → cert x ≡ c → cert (s .high) ≡ Failed → W .Trying x t → 1 ≤ t → t + n ≤ 6
@@ -94,7 +93,7 @@ module _ (P : Answer → Type 0) (refused : (k : ℕ) → P (Refused k)) where
       let u = and-r (finite (s .low)) b t in
       let o = and-r (finite (s .high)) (not (lt (s .high) (s .low))) u in
       by-first cert s (W (and-l (finite (s .low)) b t) (and-l (finite (s .high)) (not (lt (s .high) (s .low))) u) o) o)
-      (λ t. refused 8)
+      (λ t. refused 7)
 
   -- the cap that passed, and the search
   pub by-recovery : (q : Request) (l : List Float) → ((n r : Float) → certificate q (rowsOf l) (upper q) ≡ Passed n r → P (Certified (upper q) n r 1))
@@ -109,10 +108,10 @@ module _ (P : Answer → Type 0) (refused : (k : ℕ) → P (Refused k)) where
 
       numbered : (k : ℕ) {x : Answer} → P x → P (answered x Refused k)
       numbered zero h = h
-      numbered (suc k) h = refused (suc k)
+      numbered (suc k) h = refused k
 
       capped : (c : Certificate) → certificate q rows (upper q) ≡ c → P (afterCap q rows c)
       capped (Passed n r) e = cap n r e
       capped Failed e =
-          either (any (unreachable (q .tolerances .feas) (q .«a_prev»)) rows) (Refused 7) _ (λ t. refused 7)
-          (λ t. either (any (flat (q .tolerances .feas) (q .«a_prev»)) rows) (Refused 8) _ (λ t. refused 8) (λ t. by-search (certificate q rows) (projected q rows) W))
+          either (any (unreachable (q .tolerances .feas) (q .«a_prev»)) rows) (Refused 7) _ (λ t. refused 6)
+          (λ t. either (any (flat (q .tolerances .feas) (q .«a_prev»)) rows) (Refused 8) _ (λ t. refused 7) (λ t. by-search (certificate q rows) (projected q rows) W))

@@ -1,14 +1,13 @@
 -- Rows of a list from an index on: what every loop over rows asks.
 use Prim.Native.Nat.{ℕ, suc, _+_, _-_, _≤_, _<_}
-use mathlib.Core.Path.{_≡_, refl, sym, ap, _∙_}
-use mathlib.Core.Bool.{Bool, true, false}
+use mathlib.Core.Path.{_≡_, refl}
 use mathlib.Core.List.{List, [], _∷_}
 use native.Mathlib.Omega.{arith}
 use native.Mathlib.Numerals.{towards-suc}
 use lib.ListN.{length, getD, drop, length-drop}
 use lib.Seq.{drop-cons}
 use lib.Ieee.{Float, nan}
-use Rattle.rows.specs.Rows.{Row, row, rowsOf, fold, any}
+use Rattle.rows.specs.Rows.{Row, row, rowsOf, fold}
 
 abbrev pub rowAt : List Float → ℕ → Row
 rowAt l i = row (getD l i nan) (getD l (i + 1) nan) (getD l (i + 2) nan)

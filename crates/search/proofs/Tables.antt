@@ -10,7 +10,7 @@ use Rattle.rows.specs.Rows.{Row, fold, any}
 use Rattle.rows.specs.Row.{empty, unfit, unmeetable}
 use Rattle.rows.specs.Reading.{blockOf, readingOf}
 use Rattle.rows.specs.declared.block.Block.{Block}
-use Rattle.rows.specs.declared.reading.Reading.the-variants.{Unfit, Unmeetable, Silent, Says}
+use Rattle.rows.specs.declared.reading.Reading.the-variants.{Silent, Says}
 use Rattle.rows.specs.declared.judging.Judged.{Judged}
 use Rattle.rows.specs.declared.judging.Judged.the-variants.{Broken, Fits}
 use Rattle.limits.specs.Certificate.{between, certificate}

@@ -1,5 +1,5 @@
 -- Refusal 1 before all others: what a list of whole rows has, and what is answered where it is one and where it is not.
-use Prim.Native.Nat.{_*_, _%_, _≤_}
+use Prim.Native.Nat.{_%_, _≤_}
 use mathlib.Core.Path.{_≡_}
 use mathlib.Core.Bool.{Bool, true, false, _&&_}
 use mathlib.Core.List.{List}

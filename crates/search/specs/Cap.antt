@@ -1,5 +1,4 @@
 -- The cap, and the search after a cap that failed.
-use Prim.Native.Nat.{ℕ}
 use mathlib.Core.Bool.{cond}
 use mathlib.Core.List.{List}
 use lib.Ieee.{Float}

@@ -1,5 +1,5 @@
 -- The whole recovery: refusals 1 to 6 in 01's order, then the cap and the search.
-use Prim.Native.Nat.{ℕ, _≤_}
+use Prim.Native.Nat.{ℕ}
 use mathlib.Core.Bool.{Bool, not, _&&_}
 use mathlib.Core.List.{List}
 use lib.Ieee.{Float, lt, isNan}
@@ -14,7 +14,7 @@ use Rattle.limits.specs.declared.request.Tolerances.{Tolerances}
 use Rattle.limits.specs.declared.request.Request.{Request}
 use Rattle.search.specs.Cap.{withCap}
 use Rattle.search.specs.declared.answer.Answer.{Answer}
-use Rattle.search.specs.declared.answer.Answer.the-variants.{Certified, Refused}
+use Rattle.search.specs.declared.answer.Answer.the-variants.{Refused}
 use Rattle.topp2_ra.specs.Tolerant.{approxOrder, notLess, notGreater}
 
 -- 2: "a tolerance not finite or negative; a_prev or a previous interval end not finite; a current end or path cap NaN"
@@ -63,8 +63,3 @@ recoveryNo q l = requestNo q l or rowsNo (q .tolerances .feas) (rowsOf l)
 
 unfoldable pub recovered : Request → List Float → Answer
 recovered q l = answered (withCap q (rowsOf l)) Refused (recoveryNo q l)
-
--- "Candidates tried counts certificates asked: cap, neighbours, middle, halvings; 1 to 71."
-abbrev pub TriedIn : Answer → Type 0
-TriedIn (Certified x n r t) = (1 ≤ t) × (t ≤ 71)
-TriedIn (Refused k) = Unit

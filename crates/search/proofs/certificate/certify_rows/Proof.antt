@@ -13,7 +13,6 @@ use Rattle.limits.specs.declared.certificate.Certificate.the-variants.{Passed}
 use Rattle.search.proofs.Blocks.{blocks-all, fold-on, fold-done}
 use Rattle.search.proofs.Worst.{zero-from}
 use Rattle.search.proofs.Tables.{count-fits, count-broken, failed-stays}
-use mathlib.Core.Bool.{true}
 use borrow.Author.Needs.{needs}
 use Rattle.search.proofs.certificate.certify_rows.Statement.{statement}
 use Rattle.search.proofs.certificate.certify_rows.Tie as tie
