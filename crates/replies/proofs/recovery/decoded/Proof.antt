@@ -6,17 +6,18 @@ use native.Mathlib.Omega.{arith}
 use borrow.Author.Tests.{lt-leb}
 use lib.Dec.{eqb, leb}
 use lib.ListN.{length}
-use Rattle.topp2_ra.specs.Recovery.{wholeRows, recovered}
+use Rattle.rows.specs.Rows.{wholeRows}
+use Rattle.topp2_ra.specs.Recovery.{requestNo, recovered}
 use Rattle.limits.specs.declared.request.Request.{Request}
-use Rattle.topp2_ra.specs.declared.answer.Answer.the-variants.{Refused}
+use Rattle.search.specs.declared.answer.Answer.the-variants.{Refused}
 use Rattle.byte_lists.specs.Bytes.{doublesOf}
 use Rattle.byte_lists.proofs.Fronts.{length-doubles, front-is, front-count}
 use borrow.Author.Needs.{needs}
-use Rattle.malikoza.proofs.recover.decoded.Statement.{statement}
-use Rattle.malikoza.proofs.recover.decoded.Tie as tie
+use Rattle.replies.proofs.recovery.decoded.Statement.{statement}
+use Rattle.replies.proofs.recovery.decoded.Tie as tie
 
 too-long : (q : Request) (l : List ℕ) → 768 < length l / 8 → Refused 1 ≡ recovered q (doublesOf l)
-unfolding recovered wholeRows
+unfolding recovered requestNo wholeRows
 too-long q l h =
     let b : leb (length (doublesOf l)) 768 ≡ false = lt-leb (length (doublesOf l)) 768 (omega (arith, length-doubles l)) in
     rw b (rw (and-false (eqb (length (doublesOf l) % 3) 0)))
@@ -24,6 +25,9 @@ too-long q l h =
     and-false : (t : Bool) → t && false ≡ false
     and-false true = refl
     and-false false = refl
+
+mul-if1 : tie.Need-mul-if1
+mul-if1 c = search needs
 
 returns : tie.Need-returns
 returns c = too-long (c .before .before .args .q) (c .before .before .args .rows .now) (c .if1 .taken)
@@ -55,6 +59,7 @@ pub decoded-spec : {M : Type 1} → statement M
 decoded-spec =
     tie.close
     (tie.spec
+    mul-if1
     returns
     slice-aggregate-decode
     decode-requires
