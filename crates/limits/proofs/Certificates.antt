@@ -202,6 +202,6 @@ certificate-counted q rows x = go (between q x) (rows-counted (q .tolerances .fe
   where
     go : (b : Bool) {c : Certificate} → c ≡ verdict (q .tolerances .feas) (q .«a_prev») x rows zero zero
         → cond b c Failed ≡ cond (b && all (admits (q .tolerances .feas) (q .«a_prev») x) rows)
-            (Passed (fold (worseNormalized (q .«a_prev») x) zero rows) (fold (worseRaw (q .«a_prev») x) zero rows)) Failed
+        (Passed (fold (worseNormalized (q .«a_prev») x) zero rows) (fold (worseRaw (q .«a_prev») x) zero rows)) Failed
     go true h = h
     go false h = refl

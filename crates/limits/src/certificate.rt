@@ -80,7 +80,12 @@ fn certify_rows(tol: f64, a: f64, rows: &[f64], x: f64) -> Certificate
     };
     let mut i = 0;
     while 3 <= rows.len() - i {
-        c = count_reading(tol, x, c, reading::read(tol, a, rows[i], rows[i + 1], rows[i + 2]));
+        c = count_reading(
+            tol,
+            x,
+            c,
+            reading::read(tol, a, rows[i], rows[i + 1], rows[i + 2]),
+        );
         i += 3;
     }
     c

@@ -28,9 +28,9 @@ pub extern "C" fn malikoza_recover(
 ) -> u64
     ensures { λ r. ⌜ Recovering
         (requestOf «a_prev»
-            (stationOf «prev_lower» «prev_upper» «prev_cap»)
-            (stationOf «curr_lower» «curr_upper» «curr_cap»)
-            (tolerancesOf «feas_tol» «a_cmp_abs_tol» «a_cmp_rel_tol»))
+        (stationOf «prev_lower» «prev_upper» «prev_cap»)
+        (stationOf «curr_lower» «curr_upper» «curr_cap»)
+        (tolerancesOf «feas_tol» «a_cmp_abs_tol» «a_cmp_rel_tol»))
         (now (rows .entry)) r
         (now (speed .entry)) (now (speed .exit))
         (now («worst_normalized» .entry)) (now («worst_normalized» .exit))
@@ -41,5 +41,11 @@ pub extern "C" fn malikoza_recover(
     let curr = station_of(curr_lower, curr_upper, curr_cap);
     let tolerances = tolerances_of(feas_tol, a_cmp_abs_tol, a_cmp_rel_tol);
     let q = request_of(a_prev, prev, curr, tolerances);
-    tell(recover_bytes(q, rows), speed, worst_normalized, worst_raw, tried)
+    tell(
+        recover_bytes(q, rows),
+        speed,
+        worst_normalized,
+        worst_raw,
+        tried,
+    )
 }

@@ -163,7 +163,7 @@ module _ (tol a : Float) (w : Row) (x y z : Float) (m : Mid x y z) where
       go : (b : Bool) → (T (not b) → T (not (empty w))) → T (finite (norm w)) → T (verdict x b) → T (verdict z b) → T (verdict y b)
       go true N F p r = p
       go false N F p r =
-              let lim = rawTol tol w in
+          let lim = rawTol tol w in
           passed tol lim (normalized a y w) (rawNormalized a y w) (raw a y w)
           (residuals-mid F (N tt) (tested tol lim (normalized a x w) (rawNormalized a x w) (raw a x w) p) (tested tol lim (normalized a z w) (rawNormalized a z w) (raw a z w) r))
 

@@ -67,7 +67,7 @@ module _ (tol a : Float) where
       go : (u m e : Bool) → ((bs : List Block) → pass (allBlocks bs) rows ≡ outcome rows (bs ++ blocks tol a rows))
           → pass (foundReading (allBlocks bs) (cond u Unfit (cond m Unmeetable (cond e Silent (Says (blockOf tol a w)))))) rows
           ≡ cond (u || any (unfit tol) rows) someUnfit
-              (cond (m || any unmeetable rows) someUnmeetable (allBlocks (bs ++ cond e (blocks tol a rows) (blockOf tol a w ∷ blocks tol a rows))))
+          (cond (m || any unmeetable rows) someUnmeetable (allBlocks (bs ++ cond e (blocks tol a rows) (blockOf tol a w ∷ blocks tol a rows))))
       go true m e rest = unfit-stays rows
       go false true e rest = unmeetable-stays rows
       go false false true rest = rest bs

@@ -64,7 +64,11 @@ pub(crate) fn fill(tol: f64, a: f64, rows: &[f64], table: &mut [f64]) -> Filled
     let mut state = Filled::Ready(0);
     let mut i = 0;
     while 3 <= rows.len() - i {
-        state = enter(reading::read(tol, a, rows[i], rows[i + 1], rows[i + 2]), table, state);
+        state = enter(
+            reading::read(tol, a, rows[i], rows[i + 1], rows[i + 2]),
+            table,
+            state,
+        );
         i += 3;
     }
     state

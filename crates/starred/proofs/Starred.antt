@@ -2,18 +2,18 @@
 use mathlib.Core.Path.{refl}
 use lib.Ieee.{round, add, sub, mul, div, lt, le, eq, isNan, ofInt, toUnsigned, ofBits, toBits}
 use Rattle.number.specs.Leaves.{negative, countsBelow, minimum, maximum, absolute, nextDown}
-use Rattle.loops.specs.Rows.{rowsOf, fold, any, all}
+use Rattle.rows.specs.Rows.{rowsOf, wholeRows, fold, any, all}
 use Rattle.roots.specs.Root.{rootIn, isqrt, stickRoot, rootNearest, sqrtOf}
 use Rattle.roots.specs.Hypot.{hypotOf}
 use Rattle.fused.specs.Fused.{infPlus, fmaOf}
 use Rattle.topp2_ra.specs.Tolerant.{approxOrder}
 use Rattle.topp2_ra.specs.Recovery.{insidePrevious}
-use Rattle.limits.specs.Row.{numbersFinite, allWithin, admits}
 use Rattle.limits.specs.Certificate.{between, passes, worseNormalized, worseRaw, certificate}
-use Rattle.limits.specs.Projection.{reach, slope as incline, cutBy, narrowed, unreachable, flatBy, flat}
-use Rattle.topp2_ra.specs.Search.{neighbours, tryNeighbours, searched}
-use Rattle.topp2_ra.specs.Recovery.{wholeRows, tolerance, noneNan, inputsGood, previousGood, currentGood, afterCap, withRows, recovered}
-use Rattle.limits.specs.Row.{unfit, unmeetable}
+use Rattle.limits.specs.Projection.{reach, incline, cutBy, narrowed, unreachable, flatBy, flat}
+use Rattle.search.specs.Search.{neighbours, tryNeighbours, searched}
+use Rattle.search.specs.Cap.{afterCap, withCap}
+use Rattle.topp2_ra.specs.Recovery.{tolerance, tolerancesGood, noneNan, inputsGood, previousGood, currentGood, requestNo, recovered}
+use Rattle.rows.specs.Row.{numbersFinite, allWithin, admits, unfit, unmeetable, rowsNo}
 use Rattle.loops.specs.Upto.{every, count, seek, first, table, filled}
 use Rattle.loops.specs.Entries.{everyEntry, everyPair}
 use Rattle.interpolation.specs.Profile.{notBelowZero, notBothZero, profileNo, speedNo}
@@ -24,7 +24,26 @@ use Rattle.sampling.specs.List.{samplesNo, listNo}
 use Rattle.sampling.specs.Grid.{lastOf, gridSize, gridTime, finalAdded, evenNo, gridNo, gridStation, gridEntry, gridEntries}
 use Rattle.starred.specs.Cases.{AllHold, starred}
 
+infixr 10 _also_
+_also_ : {A B : Type 0} → A → B → A × B
+a also b = (a, b)
+
 pub starred-hold : AllHold starred
-unfolding round add sub mul div lt le eq isNan ofBits toBits negative countsBelow minimum maximum absolute nextDown rowsOf fold any all rootIn isqrt stickRoot rootNearest sqrtOf hypotOf infPlus fmaOf approxOrder insidePrevious numbersFinite allWithin admits between passes worseNormalized worseRaw certificate reach incline cutBy narrowed unreachable flatBy flat neighbours tryNeighbours searched wholeRows tolerance noneNan inputsGood previousGood currentGood unfit unmeetable afterCap withRows recovered every count seek first table filled everyEntry everyPair notBelowZero notBothZero profileNo speedNo slope slopesNo leg legTime timeAt timesFinite startNo timesNo intervalOf inverse2order c1At stationIn isBefore isInside isPast stationAt countsOf timedNo samplesNo listNo lastOf gridSize gridTime finalAdded evenNo gridNo gridStation gridEntry gridEntries ofInt toUnsigned
+unfolding round add sub mul div lt le eq isNan ofBits toBits negative countsBelow minimum maximum absolute nextDown rowsOf fold any all
+    rootIn isqrt stickRoot rootNearest sqrtOf hypotOf infPlus fmaOf approxOrder insidePrevious numbersFinite allWithin admits between passes
+    worseNormalized worseRaw certificate reach incline cutBy narrowed unreachable flatBy flat neighbours tryNeighbours searched wholeRows
+    tolerance tolerancesGood noneNan inputsGood previousGood currentGood unfit unmeetable rowsNo requestNo afterCap withCap recovered every
+    count seek first table filled everyEntry everyPair notBelowZero notBothZero profileNo speedNo slope slopesNo leg legTime timeAt
+    timesFinite startNo timesNo intervalOf inverse2order c1At stationIn isBefore isInside isPast stationAt countsOf timedNo samplesNo listNo
+    lastOf gridSize gridTime finalAdded evenNo gridNo gridStation gridEntry gridEntries ofInt toUnsigned
 starred-hold =
-    (refl, (refl, (refl, (refl, (refl, (refl, (refl, (refl, (refl, (record { answer = refl; left = refl }, (record { answer = refl; left = refl }, (record { answer = refl; left = refl }, (record { answer = refl; left = refl }, tt)))))))))))))
+    -- root, hypot, fused multiply-add
+    refl also refl also refl also refl also refl
+    -- recovery
+    also refl also refl also refl also refl
+    -- times, slopes, samples, grid
+    also record { answer = refl; left = refl }
+    also record { answer = refl; left = refl }
+    also record { answer = refl; left = refl }
+    also record { answer = refl; left = refl }
+    also tt

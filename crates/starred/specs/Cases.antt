@@ -9,8 +9,8 @@ use Rattle.roots.specs.Hypot.{hypotOf}
 use Rattle.fused.specs.Fused.{fmaOf}
 use Rattle.topp2_ra.specs.Recovery.{recovered}
 use Rattle.limits.specs.declared.request.Request.{Request}
-use Rattle.topp2_ra.specs.declared.answer.Answer.{Answer}
-use Rattle.topp2_ra.specs.declared.answer.Answer.the-variants.{Certified, Refused}
+use Rattle.search.specs.declared.answer.Answer.{Answer}
+use Rattle.search.specs.declared.answer.Answer.the-variants.{Certified, Refused}
 use Rattle.interpolation.specs.Slopes.{Slopes}
 use Rattle.interpolation.specs.Times.{Times}
 use Rattle.sampling.specs.List.{Listed}
@@ -51,13 +51,9 @@ counts b i p w = record { before = b; inside = i; past = p; written = w }
 abbrev usual : Float → Request
 usual tol = record {
   «a_prev» = double 0x3ff0_0000_0000_0000;
-  «prev_backward» = record { lower = double 0; upper = double 0x4010_0000_0000_0000 };
-  «curr_backward» = record { lower = double 0; upper = double 0x4010_0000_0000_0000 };
-  «prev_path_max» = double 0x4022_0000_0000_0000;
-  «curr_path_max» = double 0x4008_0000_0000_0000;
-  «feas_tol» = tol;
-  «a_cmp_abs_tol» = double 0;
-  «a_cmp_rel_tol» = double 0;
+  prev = record { interval = record { lower = double 0; upper = double 0x4010_0000_0000_0000 }; cap = double 0x4022_0000_0000_0000 };
+  curr = record { interval = record { lower = double 0; upper = double 0x4010_0000_0000_0000 }; cap = double 0x4008_0000_0000_0000 };
+  tolerances = record { feas = tol; abs = double 0; rel = double 0 };
 }
 
 abbrev pub Holds : Case → Type 0

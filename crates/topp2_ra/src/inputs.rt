@@ -47,7 +47,11 @@ fn three_true(a: bool, b: bool, c: bool) -> bool
 fn tolerances_good(t: Tolerances) -> bool
     ensures { λ r. ⌜ r ≡ tolerancesGood t ⌝ }
 {
-    three_true(is_tolerance(t.feas), is_tolerance(t.abs), is_tolerance(t.rel))
+    three_true(
+        is_tolerance(t.feas),
+        is_tolerance(t.abs),
+        is_tolerance(t.rel),
+    )
 }
 
 // 2
@@ -106,10 +110,7 @@ fn current_good(q: Request) -> bool
 pub(crate) fn refusal(q: Request, rows: &[f64]) -> u64
     ensures { λ r. ⌜ r ≡ requestNo q (now (rows .entry)) ⌝ }
 {
-    let outside = or(
-        unless(previous_good(q), 3),
-        unless(current_good(q), 4),
-    );
+    let outside = or(unless(previous_good(q), 3), unless(current_good(q), 4));
     let inputs = or(unless(inputs_good(q), 2), outside);
     or(unless(whole::whole_rows(rows.len()), 1), inputs)
 }
