@@ -5,5 +5,5 @@ pub mod Sums
 pub mod Windowed
 pub mod Operands
 pub mod Specials
-pub mod Nearest
+pub mod NearestSum
 pub mod Settled

@@ -1,8 +1,13 @@
 -- The fused multiply-add, over any format. 01: "Fused multiply-add of x, y, z: nearest to xy + z, one rounding; IEEE 754 for zeros and infinities."
-use Prim.Native.Nat.{ℕ, _+_, _-_, _*_}
+use mathlib.Core.Path.{_≡_}
+use Prim.Native.Nat.{ℕ, _+_, _-_, _*_, _^_}
 use mathlib.Core.Bool.{Bool, _&&_, Bool·beq, cond}
-use lib.Dec.{ltb, eqb}
-use lib.Ieee.{Float, nan, inf, fin, Format, up, down, unlike, sum}
+use lib.Dec.{T, ltb, eqb}
+use lib.Ieee.{Float, nan, inf, fin, Format, low, up, down, unlike, sum}
+use lib.Ieee.Scale.{finite}
+use Rattle.number.specs.Units.{unitsOf}
+use Rattle.number.specs.Leaves.{negative}
+use Rattle.rounding.specs.Nearness.{Size, fraction, Nearest, OnlyNearest}
 
 -- an infinite product with the sign s, and z added: infinities of both signs have no sum
 unfoldable pub infPlus : Bool → Float → Float
@@ -30,3 +35,23 @@ exactSize s a t b = cond (Bool·beq s t) (a + b) (cond (ltb a b) (b - a) (a - b)
 
 abbrev pub exactSign : Bool → ℕ → Bool → ℕ → Bool
 exactSign s a t b = cond (Bool·beq s t) s (cond (ltb a b) t (s && ltb b a))
+
+-- of xy + z, of finite values: X units times Y units are X * Y square units, and Z units are Z * 2 ^ low f
+abbrev pub signOfSum : Format → Float → Float → Float → Bool
+signOfSum f x y z = exactSign (unlike (negative x) (negative y)) (unitsOf f x * unitsOf f y) (negative z) (unitsOf f z * 2 ^ low f)
+
+abbrev pub squareUnits : Format → Float → Float → Float → ℕ
+squareUnits f x y z = exactSize (unlike (negative x) (negative y)) (unitsOf f x * unitsOf f y) (negative z) (unitsOf f z * 2 ^ low f)
+
+abbrev pub exactSum : Format → Float → Float → Float → Size
+exactSum f x y z = fraction f (squareUnits f x y z) (2 ^ low f * 2 ^ low f)
+
+-- "nearest to xy + z": of finite x, y and z, r is the value of f nearest to it
+abbrev pub FmaNearest : Format → Float → Float → Float → Float → Type 0
+FmaNearest f x y z r = T (finite x) → T (finite y) → T (finite z) → Nearest f (signOfSum f x y z) (exactSum f x y z) r
+
+-- r is the fused multiply-add of x, y and z, and where 01 says "nearest" no other value is
+pub record Fused (f : Format) (x y z r : Float) : Type 0 where
+  pub is : r ≡ fmaOf f x y z
+  pub nearest : FmaNearest f x y z r
+  pub only : T (finite x) → T (finite y) → T (finite z) → OnlyNearest f (signOfSum f x y z) (exactSum f x y z) r

@@ -10,7 +10,7 @@ use rounding::packing::rounded;
 ghost use mathlib.Core.Path.{_≡_};
 ghost use mathlib.Core.Bool.{_||_, _&&_, false, cond};
 ghost use lib.Ieee.{binary64, lt, isNan, ofBits};
-ghost use Rattle.fused.specs.Fused.{fmaOf};
+ghost use Rattle.fused.specs.Fused.{fmaOf, Fused};
 ghost use Rattle.fused.specs.Steps.{isSpecial};
 
 fn some_nan(x: f64, y: f64, z: f64) -> bool
@@ -83,7 +83,7 @@ fn between(a: f64, p: f64, b: f64) -> bool
 // near and far are a step or two from the rounded product, one below and one above it, so the exact product is between them. Where the sum with either is
 // the same number, so is the sum with the exact product; the smaller the product beside z, the more often. Of a zero they do not tell the sign.
 pub fn fma(x: f64, y: f64, z: f64) -> f64
-    ensures { λ r. ⌜ r ≡ fmaOf binary64 x y z ⌝ }
+    ensures { λ r. ⌜ Fused binary64 x y z r ⌝ }
 {
     let p = x * y;
     let near = p * 0.9999999999999999;

@@ -1,10 +1,10 @@
--- One exact size has one nearest value only: the statement of specs/Nearness admits no second answer.
+-- One exact size has one nearest value only: a value that is `Nearest` is also `OnlyNearest`, so the statement of specs/Nearness admits no second answer.
 use mathlib.Core.Path.{_≡_, sym, ap, _∙_, subst}
 use mathlib.Core.Logic.{_⊎_, ⊎-elim}
 use Prim.Native.Nat.{ℕ, suc, _+_, _*_, _%_, _^_, _≤_, _<_, compare, Ordering, Ordering·lt, Ordering·eq, Ordering·gt}
 use native.Mathlib.Nat.{add-comm, le-trans, le-of-lt, lt-irrefl, not-le-of-lt, mul-le-mul, mul-lt-mul-of-pos-right, eq-or-lt-of-le}
 use native.Mathlib.Omega.{arith}
-use mathlib.Core.Bool.{Bool, false, cond}
+use mathlib.Core.Bool.{Bool, cond}
 use lib.Dec.{T}
 use lib.IntN.{ℤ}
 use lib.Ieee.{Float, nan, inf, fin, Format, low, fits, toBits, ofBits, hid, ones, top}
@@ -13,17 +13,17 @@ use lib.Ieee.Bits.{ofBits-fits}
 use lib.Ieee.Scale.{finite}
 use Rattle.number.specs.Units.{unitsOf}
 use Rattle.number.proofs.Patterns.{sizeAt, pattern-signed, sizes-rise, units-of-pattern, Pattern, pattern-below}
-use Rattle.rounding.specs.Nearness.{Size, fraction, rootOf, Closest, Nearest}
+use Rattle.rounding.specs.Nearness.{Size, fraction, rootOf, Closest, Nearest, OnlyNearest}
 use Rattle.rounding.proofs.Compare.{Cmp, cmp}
 
 -- What a size has to keep: it is not at most one number and at least a larger one.
-abbrev pub Ordered : Size → Type 0
+abbrev Ordered : Size → Type 0
 Ordered v = (j k : ℕ) → j < k → v .atMost j → v .atLeast k → ⊥
 
-pub fraction-ordered : (f : Format) (num den : ℕ) → 0 < den → Ordered (fraction f num den)
+fraction-ordered : (f : Format) (num den : ℕ) → 0 < den → Ordered (fraction f num den)
 fraction-ordered f num den D j k h a b = not-le-of-lt (mul-lt-mul-of-pos-right h D) (le-trans b a)
 
-pub root-ordered : (n : ℕ) → Ordered (rootOf n)
+root-ordered : (n : ℕ) → Ordered (rootOf n)
 root-ordered n j k h a b = not-le-of-lt (square-lt j k h) (le-trans b a)
   where
     square-lt : (x y : ℕ) → x < y → x * x < y * y
@@ -124,7 +124,7 @@ module _ (f : Format) (s : Bool) (v : Size) (O : Ordered v) where
   signed : (t : Bool) (m : ℕ) (e : ℤ) → t ≡ s → T (fits f (fin t m e)) → Written f s (fin t m e)
   signed t m e h F = subst (λ (b : Bool). Written f b (fin t m e)) h (written f t m e F)
 
-  pub one-nearest : (x y : Float) → Nearest f s v x → Nearest f s v y → x ≡ y
+  one-nearest : (x y : Float) → Nearest f s v x → Nearest f s v y → x ≡ y
   one-nearest nan y h k = absurd h
   one-nearest (inf t) nan h k = absurd k
   one-nearest (inf t) (inf u) h k = ap inf (h .0 ∙ sym (k .0))
@@ -134,8 +134,8 @@ module _ (f : Format) (s : Bool) (v : Size) (O : Ordered v) where
   one-nearest (fin t m e) (fin u n d) h k = of-sign (fin t m e) (fin u n d) (h .1) (k .1) tt tt (signed t m e (h .0) (h .1)) (signed u n d (k .0) (k .1)) (h .3) (k .3)
 
 -- in the plain form and in the square form
-pub one-fraction : (f : Format) (s : Bool) (num den : ℕ) → 0 < den → (x y : Float) → Nearest f s (fraction f num den) x → Nearest f s (fraction f num den) y → x ≡ y
-one-fraction f s num den D = one-nearest f s (fraction f num den) (fraction-ordered f num den D)
+pub only-fraction : (f : Format) (s : Bool) (num den : ℕ) → 0 < den → (x : Float) → Nearest f s (fraction f num den) x → OnlyNearest f s (fraction f num den) x
+only-fraction f s num den D x h y k = one-nearest f s (fraction f num den) (fraction-ordered f num den D) y x k h
 
-pub one-root : (f : Format) (n : ℕ) (x y : Float) → Nearest f false (rootOf n) x → Nearest f false (rootOf n) y → x ≡ y
-one-root f n = one-nearest f false (rootOf n) (root-ordered n)
+pub only-root : (f : Format) (s : Bool) (n : ℕ) (x : Float) → Nearest f s (rootOf n) x → OnlyNearest f s (rootOf n) x
+only-root f s n x h y k = one-nearest f s (rootOf n) (root-ordered n) y x k h

@@ -38,3 +38,7 @@ abbrev pub Nearest : Format → Bool → Size → Float → Type 0
 Nearest f s v nan = ⊥
 Nearest f s v (inf t) = (t ≡ s) × v .atLeast (limit f)
 Nearest f s v (fin t m e) = (t ≡ s) × T (fits f (fin t m e)) × (v .atLeast (limit f) → ⊥) × Closest f v (fin t m e)
+
+-- no value but x is nearest to the size v with the sign s
+abbrev pub OnlyNearest : Format → Bool → Size → Float → Type 0
+OnlyNearest f s v x = (y : Float) → Nearest f s v y → y ≡ x

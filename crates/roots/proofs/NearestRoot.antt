@@ -1,20 +1,18 @@
--- The theorems: `sqrtOf` and `hypotOf` are nearest in the sense of rounding's specs/Nearness, in every format. One value only is (`one-root` of crate rounding).
-use mathlib.Core.Path.{_≡_, ap₂}
+-- The theorems: `sqrtOf` and `hypotOf` are nearest in the sense of rounding's specs/Nearness, in every format, and no other value is.
+use mathlib.Core.Path.{_≡_, ap₂, subst⁻¹}
 use mathlib.Core.Logic.{⊎-elim}
 use Prim.Native.Nat.{ℕ, zero, suc, _+_, _*_, _^_, _≤_, _<_}
 use native.Mathlib.Nat.{eq-or-lt-of-le, le-trans, le-of-lt, lt-of-le-of-lt, mul-pos, mul-le-mul, le-of-mul-le-mul-right, mul-le-mul-right}
 use native.Mathlib.Omega.{arith}
 use mathlib.Core.Bool.{true, false}
-use lib.Dec.{T}
 use lib.Pow.{pow-pos}
 use lib.Ieee.{Float, nan, inf, fin, Format, low}
-use lib.Ieee.Positive.{positive}
-use lib.Ieee.Scale.{finite}
 use Rattle.number.specs.Units.{unitsOf}
 use Rattle.rounding.specs.Nearness.{fraction, rootOf, Nearest}
 use Rattle.rounding.proofs.Nearness.{round-nearest, Same, nearest-same}
-use Rattle.roots.specs.Root.{isqrt, stickRoot, rootNearest, sqrtOf}
-use Rattle.roots.specs.Hypot.{hypotOf}
+use Rattle.rounding.proofs.OneNearest.{only-root}
+use Rattle.roots.specs.Root.{isqrt, stickRoot, rootNearest, sqrtOf, SqrtNearest, Rooted}
+use Rattle.roots.specs.Hypot.{hypotOf, HypotNearest, Spanned}
 use Rattle.roots.proofs.Roots.{isqrt-is, square-lt, stickRoot-is}
 
 -- ---- the sticky root compares with a whole number of half steps as the number does with its square
@@ -75,12 +73,14 @@ same-size f n = record {
     more-back y k l h = let g = mul-le-mul-right l h in omega arith
 
 -- ---- the theorems
-pub root-nearest : (f : Format) (n : ℕ) → Nearest f false (rootOf n) (rootNearest f n)
+root-nearest : (f : Format) (n : ℕ) → Nearest f false (rootOf n) (rootNearest f n)
 unfolding rootNearest
 root-nearest f n =
-    nearest-same f false (fraction f (stickRoot (4 * n)) (4 * 2 ^ low f)) (rootOf n) (rootNearest f n) (same-size f n) (round-nearest f false (stickRoot (4 * n)) (4 * 2 ^ low f) (mul-pos (pow-pos 2) (pow-pos (low f))))
+    let y = stickRoot (4 * n) in
+    let c = 4 * 2 ^ low f in
+    nearest-same f false (fraction f y c) (rootOf n) (rootNearest f n) (same-size f n) (round-nearest f false y c (mul-pos (pow-pos 2) (pow-pos (low f))))
 
-pub sqrt-nearest : (f : Format) (x : Float) → T (positive x) → Nearest f false (rootOf (unitsOf f x * 2 ^ low f)) (sqrtOf f x)
+sqrt-nearest : (f : Format) (x : Float) → SqrtNearest f x (sqrtOf f x)
 unfolding sqrtOf
 sqrt-nearest f nan h = absurd h
 sqrt-nearest f (inf s) h = absurd h
@@ -88,10 +88,24 @@ sqrt-nearest f (fin true m e) h = absurd h
 sqrt-nearest f (fin false zero e) h = absurd h
 sqrt-nearest f (fin false (suc m) e) h = root-nearest f (unitsOf f (fin false (suc m) e) * 2 ^ low f)
 
-pub hypot-nearest : (f : Format) (x y : Float) → T (finite x) → T (finite y) → Nearest f false (rootOf (unitsOf f x * unitsOf f x + unitsOf f y * unitsOf f y)) (hypotOf f x y)
+hypot-nearest : (f : Format) (x y : Float) → HypotNearest f x y (hypotOf f x y)
 unfolding hypotOf
 hypot-nearest f nan y h k = absurd h
 hypot-nearest f (inf s) y h k = absurd h
 hypot-nearest f (fin s m e) nan h k = absurd k
 hypot-nearest f (fin s m e) (inf t) h k = absurd k
 hypot-nearest f (fin s m e) (fin t n d) h k = root-nearest f (unitsOf f (fin s m e) * unitsOf f (fin s m e) + unitsOf f (fin t n d) * unitsOf f (fin t n d))
+
+-- what the contracts say, from their equations
+pub rooted : (f : Format) (x r : Float) → r ≡ sqrtOf f x → Rooted f x r
+rooted f x r e = record { is = e; nearest = near; only = λ h. only-root f false (unitsOf f x * 2 ^ low f) r (near h) }
+  where
+    near : SqrtNearest f x r
+    near = subst⁻¹ (SqrtNearest f x) e (sqrt-nearest f x)
+
+pub spanned : (f : Format) (x y r : Float) → r ≡ hypotOf f x y → Spanned f x y r
+spanned f x y r e =
+    record { is = e; nearest = near; only = λ h k. only-root f false (unitsOf f x * unitsOf f x + unitsOf f y * unitsOf f y) r (near h k) }
+  where
+    near : HypotNearest f x y r
+    near = subst⁻¹ (HypotNearest f x y) e (hypot-nearest f x y)
