@@ -21,7 +21,7 @@ returns : tie.Need-returns
 returns c =
     simp (
       ← c .pattern-of .ensures,
-      ← c .before .fma .ensures,
+      ← c .before .fma .ensures .is,
       ← c .before .before .double-of3 .ensures,
       ← c .before .before .before .double-of2 .ensures,
       ← c .before .before .before .before .double-of .ensures,

@@ -18,7 +18,7 @@ returns : tie.Need-returns
 returns c =
     simp (
       ← c .pattern-of .ensures,
-      ← c .before .hypot .ensures,
+      ← c .before .hypot .ensures .is,
       ← c .before .before .double-of2 .ensures,
       ← c .before .before .before .double-of .ensures,
     )

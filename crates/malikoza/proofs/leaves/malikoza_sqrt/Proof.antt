@@ -15,7 +15,7 @@ returns : tie.Need-returns
 returns c =
     simp (
       ← c .pattern-of .ensures,
-      ← c .before .sqrt .ensures,
+      ← c .before .sqrt .ensures .is,
       ← c .before .before .double-of .ensures,
     )
 

@@ -23,7 +23,7 @@ returns c =
     let h = c .before .before .before .before .before in
     let a = h .before .before .args in
     let t = a .table .now in (
-      c .refuse .ensures .0 t ∙ row-unmet (a .q) (row (a .c) (a .p) (a .r)) (foundIn t (a .s)) _ (h .hypot .ensures)
+      c .refuse .ensures .0 t ∙ row-unmet (a .q) (row (a .c) (a .p) (a .r)) (foundIn t (a .s)) _ (h .hypot .ensures .is)
           (sym (c .before .before .before .before .both-finite .ensures) ∙ c .before .before .before .if1 .taken) (c .before .before .if2 .taken) (c .before .if3 .taken),
       omega (arith, c .refuse .ensures .1),
     )
@@ -32,7 +32,7 @@ returns-2 : tie.Need-returns-2
 returns-2 c =
     let h = c .before .before .before .before in
     let a = h .before .before .args in (
-      row-silent (a .q) (row (a .c) (a .p) (a .r)) (foundIn (a .table .now) (a .s)) _ (h .hypot .ensures)
+      row-silent (a .q) (row (a .c) (a .p) (a .r)) (foundIn (a .table .now) (a .s)) _ (h .hypot .ensures .is)
           (sym (c .before .before .before .both-finite .ensures) ∙ c .before .before .if1 .taken) (c .before .if2 .taken) (c .if3 .left),
       omega arith,
     )
@@ -55,7 +55,7 @@ returns-3 c =
     let h = m .before .before .before .before in
     let a = h .before .before .args in
     let v = c .before .before .add .ensures in (
-      v .0 ∙ row-says (a .q) (row (a .c) (a .p) (a .r)) (foundIn (a .table .now) (a .s)) _ _ (h .hypot .ensures)
+      v .0 ∙ row-says (a .q) (row (a .c) (a .p) (a .r)) (foundIn (a .table .now) (a .s)) _ _ (h .hypot .ensures .is)
           (ap (λ (y : Float). a .q .«feas_tol» ⊗ y) (m .scale .ensures))
           (sym (m .before .before .before .both-finite .ensures) ∙ m .before .before .if1 .taken)
           (m .before .if2 .left)
@@ -68,7 +68,7 @@ returns-4 c =
     let m = c .before .before .before in
     let h = m .before .before .before .before in
     let a = h .before .before .args in (
-      scale-unfit (a .q) (row (a .c) (a .p) (a .r)) (foundIn (a .table .now) (a .s)) _ _ (h .hypot .ensures)
+      scale-unfit (a .q) (row (a .c) (a .p) (a .r)) (foundIn (a .table .now) (a .s)) _ _ (h .hypot .ensures .is)
           (ap (λ (y : Float). a .q .«feas_tol» ⊗ y) (m .scale .ensures))
           (sym (m .before .before .before .both-finite .ensures) ∙ m .before .before .if1 .taken)
           (m .before .if2 .left)
@@ -80,7 +80,7 @@ returns-5 : tie.Need-returns-5
 returns-5 c =
     let h = c .before .before in
     let a = h .before .before .args in (
-      numbers-unfit (a .q) (row (a .c) (a .p) (a .r)) (foundIn (a .table .now) (a .s)) _ (h .hypot .ensures) (sym (c .before .both-finite .ensures) ∙ c .if1 .left),
+      numbers-unfit (a .q) (row (a .c) (a .p) (a .r)) (foundIn (a .table .now) (a .s)) _ (h .hypot .ensures .is) (sym (c .before .both-finite .ensures) ∙ c .if1 .left),
       omega arith,
     )
 
