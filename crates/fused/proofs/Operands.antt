@@ -195,7 +195,7 @@ module _ (x y z : ℕ) (X : x < 2 ^ 64) (Y : y < 2 ^ 64) (Z : z < 2 ^ 64)
       (to-product A B m n (2 ^ a) (2 ^ b) (2 ^ 53) (2 ^ 126) c (2 ^ deep) (units-unpacked (magnitude x)) (units-unpacked (magnitude y)) (ap (λ (w : ℕ). 2 ^ w) deep-is) ∙ ap (λ (w : ℕ). m * 1024 * (n * 1024) * w * (c * c)) (sym p))
       (to-addend C l (2 ^ d) (2 ^ 53) (2 ^ 1200) (2 ^ 64) c (2 ^ deep) (units-unpacked (magnitude z)) (ap (λ (w : ℕ). 2 ^ w) deep-is) ∙ ap (λ (w : ℕ). l * 512 * 2 ^ 64 * w * (c * c)) (sym q)))
 
-  pub windows : Windows (m * 1024 * (n * 1024)) (l * 512)
+  windows : Windows (m * 1024 * (n * 1024)) (l * 512)
   windows =
       let M = digits x X (S .0) in
       let N = digits y Y (S .1) in

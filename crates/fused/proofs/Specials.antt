@@ -196,7 +196,16 @@ zero-addend f (fin s m d) (inf t) z X Y e = absurd (false≢true (sym Y))
 zero-addend f (fin s m d) (fin t n k) nan X Y e = absurd (false≢true (unfold eq in e))
 zero-addend f (fin s m d) (fin t n k) (inf u) X Y e = absurd (false≢true (unfold eq in e))
 zero-addend f (fin s m d) (fin t n k) (fin u l g) X Y e =
-    unfold mul fmaOf in zero-added f (unlike s t) u (m * up d * (n * up k)) (down d * down k) (l * up g) (down g) (mul-pos (mul-pos (digit m X) (up-pos d)) (mul-pos (digit n Y) (up-pos k))) (mul-pos (down-pos d) (down-pos k)) (down-pos g) (ap (λ (k : ℕ). k * up g) (eqb-true l 0 (sym (zero-test u l g) ∙ e)) ∙ zero-mul (up g))
+    unfold mul fmaOf in zero-added f (unlike s t) u (m * up d * (n * up k)) (down d * down k) (l * up g) (down g) above below (down-pos g) none
+  where
+    above : 0 < m * up d * (n * up k)
+    above = mul-pos (mul-pos (digit m X) (up-pos d)) (mul-pos (digit n Y) (up-pos k))
+
+    below : 0 < down d * down k
+    below = mul-pos (down-pos d) (down-pos k)
+
+    none : l * up g ≡ 0
+    none = ap (λ (i : ℕ). i * up g) (eqb-true l 0 (sym (zero-test u l g) ∙ e)) ∙ zero-mul (up g)
 
 pub infinite-addend : (f : Format) (x y z : Float) → isSpecial x ≡ false → isSpecial y ≡ false → isSpecial z ≡ true → eq z plusZero ≡ false → z ≡ fmaOf f x y z
 infinite-addend f nan y z X Y Z e = absurd (false≢true (sym X))

@@ -56,7 +56,7 @@ sub-mul : (a b c : ℕ) → (a - b) * c ≡ a * c - b * c
 sub-mul a b c = mul-comm (a - b) c ∙ mul-sub c a b ∙ ap₂ (λ (x y : ℕ). x - y) (mul-comm c a) (mul-comm c b)
 
 module _ (s t : Bool) (a b : ℕ) where
-  pub exact-scaled : (k : ℕ) → 0 < k → Exact s t (a * k) (b * k) (exactSign s a t b) (exactSize s a t b * k)
+  exact-scaled : (k : ℕ) → 0 < k → Exact s t (a * k) (b * k) (exactSign s a t b) (exactSize s a t b * k)
   exact-scaled k K = go (Bool·beq s t) refl (compare a b) (cmp a b)
     where
       to : (u : Bool) (n m : ℕ) → Exact s t a b u n → m ≡ n * k → Exact s t (a * k) (b * k) u m → Exact s t (a * k) (b * k) (exactSign s a t b) (exactSize s a t b * k)
@@ -68,7 +68,7 @@ module _ (s t : Bool) (a b : ℕ) where
       go false e Ordering·gt l = to s (a - b) (a * k - b * k) (exact-more s t a b e l) (sym (sub-mul a b k)) (exact-more s t (a * k) (b * k) e (mul-lt-mul-of-pos-right l K))
       go false e Ordering·eq l = to false 0 0 (exact-even s t a b e l) (omega arith) (exact-even s t (a * k) (b * k) e (ap (λ (z : ℕ). z * k) l))
 
-  pub exact-swapped : Exact t s b a (exactSign s a t b) (exactSize s a t b)
+  exact-swapped : Exact t s b a (exactSign s a t b) (exactSize s a t b)
   exact-swapped = go (Bool·beq s t) refl (compare a b) (cmp a b)
     where
       swap : (s t : Bool) → Bool·beq t s ≡ Bool·beq s t

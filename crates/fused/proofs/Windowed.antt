@@ -171,7 +171,7 @@ module _ (hi lo : ℕ) (H : hi < 2 ^ 64) (L : lo < 2 ^ 64) where
   abbrev m : ℕ
   m = hi * 2 ^ 64 + lo
 
-  pub spare-fits : cut m (spare hi) < 2 ^ 64
+  spare-fits : cut m (spare hi) < 2 ^ 64
   spare-fits = cut-lt m (spare hi) (2 ^ 63) (go (ltb hi (2 ^ 54)))
     where
       under : (p : ℕ) → hi < p → m < 2 ^ 63 * (2 * p)
@@ -184,7 +184,7 @@ module _ (hi lo : ℕ) (H : hi < 2 ^ 64) (L : lo < 2 ^ 64) where
       go true = under (2 ^ (64 - leadingZeros 64 hi)) (top-digit hi H .0)
       go false = under (2 ^ 64) H
 
-  pub spare-alike : (s : Bool) (k : ℕ) → round binary64 s (m * 2 ^ k) (2 ^ deep) ≡ round binary64 s (cut m (spare hi) * 2 ^ (k + spare hi)) (2 ^ deep)
+  spare-alike : (s : Bool) (k : ℕ) → round binary64 s (m * 2 ^ k) (2 ^ deep) ≡ round binary64 s (cut m (spare hi) * 2 ^ (k + spare hi)) (2 ^ deep)
   spare-alike s k = go (ltb hi (2 ^ 54)) (ltb-false hi (2 ^ 54))
     where
       -- N is 2 ^ 64

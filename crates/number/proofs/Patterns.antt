@@ -171,7 +171,7 @@ sizes-tell f a b h = lt-of-not-le (λ g. elim (eq-or-lt-of-le g) [ inl e ↦ lt-
 
 -- ---- from a value to its units
 
-pub units-of-fraction : (f : Format) (x : Float) (s : Bool) (a c : ℕ) → 0 < c → HasValue x s a c → unitsOf f x ≡ a * 2 ^ low f / c
+units-of-fraction : (f : Format) (x : Float) (s : Bool) (a c : ℕ) → 0 < c → HasValue x s a c → unitsOf f x ≡ a * 2 ^ low f / c
 units-of-fraction f nan s a c C h = absurd h
 units-of-fraction f (inf t) s a c C h = absurd h
 units-of-fraction f (fin t m e) s a c C h =

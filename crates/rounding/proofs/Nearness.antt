@@ -98,7 +98,7 @@ module _ (f : Format) (s : Bool) (v : Size) (a : ℕ) where
     tie = λ y F g n h k. c .tie (unitsOf f y) (held f y F) (λ (z : a ≡ unitsOf f y). n (e ∙ z)) (rw e at h) (rw e at k);
   }
 
-  pub nearest-of : (x : Float) → HasValue x s a (2 ^ low f) → T (fits f x) → (v .atLeast (limit f) → ⊥) → ClosestAt (toBits f x % 2 ≡ 0) → Nearest f s v x
+  nearest-of : (x : Float) → HasValue x s a (2 ^ low f) → T (fits f x) → (v .atLeast (limit f) → ⊥) → ClosestAt (toBits f x % 2 ≡ 0) → Nearest f s v x
   nearest-of nan h F l c = absurd h
   nearest-of (inf t) h F l c = absurd h
   nearest-of (fin t m e) h F l c = (h .0, F, l, closest-of (fin t m e) (units-of-value f (fin t m e) s a h) c)
@@ -123,13 +123,19 @@ module _ (f : Format) (s : Bool) (num den : ℕ) (D : 0 < den) where
   -- where the result is finite, its exponent's field is below the infinity's
   in-field : q * 2 ^ d < overflow f → suc d < ones f
   unfolding q d
-  in-field h = ⊎-elim (λ (e : d ≡ 0). small (emax f) (prec f) d (two f) (reach f) e) (λ (K : 0 < d). large (prec f) (emax f) d (two f) (pow-lt-back (prec f - 1 + d) (low f + suc (emax f)) (lt-of-le-of-lt (le-trans (le-of-eq (pow-add 2 (prec f - 1) d)) (mul-le-mul-right (2 ^ d) (full-kept (prec f) (num * 2 ^ low f) den P D K))) h))) (eq-zero-or-pos d)
+  in-field h = ⊎-elim (small (emax f) (prec f) d (two f) (reach f)) shifted (eq-zero-or-pos d)
     where
       small : (e p d : ℕ) → 2 ≤ p → p ≤ suc e → d ≡ 0 → suc d < 2 * e + 1
       small e p d P E h = omega arith
 
       large : (p e d : ℕ) → 2 ≤ p → p - 1 + d < e + p - 2 + suc e → suc d < 2 * e + 1
       large p e d P h = omega arith
+
+      shifted : 0 < d → suc d < ones f
+      shifted K =
+          let full = mul-le-mul-right (2 ^ d) (full-kept (prec f) (num * 2 ^ low f) den P D K) in
+          let under = lt-of-le-of-lt (le-trans (le-of-eq (pow-add 2 (prec f - 1) d)) full) h in
+          large (prec f) (emax f) d (two f) (pow-lt-back (prec f - 1 + d) (low f + suc (emax f)) under)
 
   -- the lowest bit of the pattern is that of the digits that are kept: the sign and the exponent's field weigh even numbers
   even : q * 2 ^ d < overflow f → q % 2 ≡ 0 → toBits f (units f s q d) % 2 ≡ 0

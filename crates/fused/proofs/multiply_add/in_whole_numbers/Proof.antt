@@ -1,6 +1,6 @@
 use mathlib.Core.Path.{_≡_, sym, ap, ap₂, _∙_, subst}
 use mathlib.Core.Logic.{inl, inr, ⊎-elim}
-use mathlib.Core.Bool.{Bool}
+use mathlib.Core.Bool.{Bool, false}
 use borrow.Author.Tests.{not-false}
 use borrow.Author.Needs.{needs}
 use lib.Dec.{T}
@@ -26,6 +26,22 @@ held-z c = subst T (sym (c .good .1 .1 .0 .1)) tt
 -- what `special` says of a pattern it says of the value
 told : (x : Float) → T (fits binary64 x) → (r b : Bool) → r ≡ isSpecial (ofBits binary64 (toBits binary64 x)) → r ≡ b → isSpecial x ≡ b
 told x F r b e h = sym (ap isSpecial (ofBits-toBits binary64 x F)) ∙ sym e ∙ h
+
+abbrev start : tie.After-special → tie.Start
+start c = c .before .before .before .before .before
+
+-- where both factors were tested, and neither is special
+abbrev past-factors : tie.After-special3 → tie.Start
+past-factors c = start (c .before .before .before .before)
+
+factors : (c : tie.After-special3) → (isSpecial (past-factors c .args .x) ≡ false) × (isSpecial (past-factors c .args .y) ≡ false)
+factors c =
+    let s = past-factors c in
+    let y = c .before .before in
+    let x = y .before .before in (
+      told (s .args .x) (held-x s) (x .special .result) _ (x .special .ensures) (y .before .if3 .left),
+      told (s .args .y) (held-y s) (y .special2 .result) _ (y .special2 .ensures) (c .before .if4 .left),
+    )
 
 some-nan-requires : tie.Need-some-nan-requires
 some-nan-requires c κs = search needs
@@ -58,16 +74,18 @@ special-requires c κs = search needs
 
 returns-2 : tie.Need-returns-2
 returns-2 c =
-    let s = c .before .before .before .before .before .before in
-    special-factor binary64 (s .args .x) (s .args .y) (s .args .z) (inl (told (s .args .x) (held-x s) (c .before .special .result) _ (c .before .special .ensures) (c .if3 .taken)))
+    let o = c .before in
+    let s = start o in
+    special-factor binary64 (s .args .x) (s .args .y) (s .args .z) (inl (told (s .args .x) (held-x s) (o .special .result) _ (o .special .ensures) (c .if3 .taken)))
 
 special-requires-2 : tie.Need-special-requires-2
 special-requires-2 c κs = search needs
 
 returns-3 : tie.Need-returns-3
 returns-3 c =
-    let s = c .before .before .before .before .before .before .before .before in
-    special-factor binary64 (s .args .x) (s .args .y) (s .args .z) (inr (told (s .args .y) (held-y s) (c .before .special2 .result) _ (c .before .special2 .ensures) (c .if4 .taken)))
+    let o = c .before in
+    let s = start (o .before .before) in
+    special-factor binary64 (s .args .x) (s .args .y) (s .args .z) (inr (told (s .args .y) (held-y s) (o .special2 .result) _ (o .special2 .ensures) (c .if4 .taken)))
 
 special-requires-3 : tie.Need-special-requires-3
 special-requires-3 c κs = search needs
@@ -75,19 +93,17 @@ special-requires-3 c κs = search needs
 returns-4 : tie.Need-returns-4
 unfolding ofBits
 returns-4 c =
-    let o = c .before .before .before in
-    let s = o .before .before .before .before .before .before .before .before in
-    zero-addend binary64 (s .args .x) (s .args .y) (s .args .z) (told (s .args .x) (held-x s) (o .before .before .before .special .result) _ (o .before .before .before .special .ensures) (o .before .before .if3 .left))
-    (told (s .args .y) (held-y s) (o .before .special2 .result) _ (o .before .special2 .ensures) (o .if4 .left)) (c .if6 .taken)
+    let z = c .before .before in
+    let s = past-factors z in
+    zero-addend binary64 (s .args .x) (s .args .y) (s .args .z) (factors z .0) (factors z .1) (c .if6 .taken)
 
 returns-5 : tie.Need-returns-5
 unfolding ofBits
 returns-5 c =
-    let o = c .before .before .before in
-    let s = o .before .before .before .before .before .before .before .before in
-    infinite-addend binary64 (s .args .x) (s .args .y) (s .args .z) (told (s .args .x) (held-x s) (o .before .before .before .special .result) _ (o .before .before .before .special .ensures) (o .before .before .if3 .left))
-    (told (s .args .y) (held-y s) (o .before .special2 .result) _ (o .before .special2 .ensures) (o .if4 .left))
-    (told (s .args .z) (held-z s) (c .before .before .special3 .result) _ (c .before .before .special3 .ensures) (c .before .if5 .taken)) (c .if6 .left)
+    let z = c .before .before in
+    let s = past-factors z in
+    infinite-addend binary64 (s .args .x) (s .args .y) (s .args .z) (factors z .0) (factors z .1)
+    (told (s .args .z) (held-z s) (z .special3 .result) _ (z .special3 .ensures) (c .before .if5 .taken)) (c .if6 .left)
 
 finite-requires : tie.Need-finite-requires
 finite-requires c κs =

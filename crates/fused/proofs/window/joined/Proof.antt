@@ -35,8 +35,10 @@ minus-requires c κs =
 
 returns-2 : tie.Need-returns-2
 returns-2 c =
-    let s = c .before .before .before .before in
-    joined-less (s .args .s) (s .args .t) (whole (s .args .a)) (whole (s .args .b)) (whole (c .minus .result)) (c .before .before .before .if1 .left) (sym (c .before .before .less .ensures) ∙ c .before .if2 .taken) (c .minus .ensures)
+    let l = c .before .before in
+    let s = l .before .before .args in
+    joined-less (s .s) (s .t) (whole (s .a)) (whole (s .b)) (whole (c .minus .result)) (l .before .if1 .left)
+    (sym (l .less .ensures) ∙ c .before .if2 .taken) (c .minus .ensures)
 
 minus-requires-2 : tie.Need-minus-requires-2
 minus-requires-2 c κs =
@@ -45,23 +47,26 @@ minus-requires-2 c κs =
 
 returns-3 : tie.Need-returns-3
 returns-3 c =
-    let s = c .before .before .before .before .before .before .before .before in
-    let d = c .before .before .before .before .minus2 in
-    joined-none (s .args .s) (s .args .t) (whole (s .args .a)) (whole (s .args .b)) (whole (d .result)) (c .before .before .before .before .before .before .before .if1 .left)
+    let m = c .before .before .before .before in
+    let s = m .before .before .before .before .args in
+    let d = m .minus2 in
+    joined-none (s .s) (s .t) (whole (s .a)) (whole (s .b)) (whole (d .result)) (m .before .before .before .if1 .left)
     (none-left (d .result .hi) (d .result .lo) (2 ^ 64) (c .before .before .if3 .taken) (c .if4 .taken)) (d .ensures)
 
 returns-4 : tie.Need-returns-4
 returns-4 c =
-    let s = c .before .before .before .before .before .before .before .before in
-    let d = c .before .before .before .before .minus2 in
-    joined-more (s .args .s) (s .args .t) (whole (s .args .a)) (whole (s .args .b)) (whole (d .result)) (c .before .before .before .before .before .before .before .if1 .left)
+    let m = c .before .before .before .before in
+    let s = m .before .before .before .before .args in
+    let d = m .minus2 in
+    joined-more (s .s) (s .t) (whole (s .a)) (whole (s .b)) (whole (d .result)) (m .before .before .before .if1 .left)
     (some-low (d .result .hi) (d .result .lo) (2 ^ 64) (c .if4 .left)) (d .ensures)
 
 returns-5 : tie.Need-returns-5
 returns-5 c =
-    let s = c .before .before .before .before .before .before in
-    let d = c .before .before .minus2 in
-    joined-more (s .args .s) (s .args .t) (whole (s .args .a)) (whole (s .args .b)) (whole (d .result)) (c .before .before .before .before .before .if1 .left)
+    let m = c .before .before in
+    let s = m .before .before .before .before .args in
+    let d = m .minus2 in
+    joined-more (s .s) (s .t) (whole (s .a)) (whole (s .b)) (whole (d .result)) (m .before .before .before .if1 .left)
     (some-high (d .result .hi) (d .result .lo) (2 ^ 64) (pow-pos 64) (c .if3 .left)) (d .ensures)
 
 pub joined-spec : {M : Type 1} → statement M

@@ -3,7 +3,7 @@ use lib.Dec.{T}
 use lib.Ieee.{binary64, fits, ofBits}
 use lib.Ieee.Bits.{ofBits-toBits}
 use Rattle.number.proofs.Order.{nought, holds, fails, lt-number, not-nan}
-use Rattle.number.proofs.Steps.{down-above}
+use Rattle.number.proofs.Downward.{down-above}
 use Rattle.number.proofs.Reading.{zero-by-zero}
 use Rattle.roots.specs.Root.{sqrtOf}
 use Rattle.roots.proofs.NearestRoot.{rooted}
