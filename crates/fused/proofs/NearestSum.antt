@@ -14,8 +14,9 @@ use Rattle.number.proofs.Patterns.{units-value}
 use Rattle.rounding.specs.Nearness.{fraction, Nearest}
 use Rattle.rounding.proofs.Nearness.{round-nearest}
 use Rattle.rounding.proofs.OneNearest.{only-fraction}
-use Rattle.fused.specs.Fused.{fmaOf, exactSize, exactSign, signOfSum, squareUnits, FmaNearest, Fused}
-use Rattle.fused.proofs.Sums.{sum-is, fma-value}
+use Rattle.whole_fma.specs.MultiplyAdd.{exactSize, exactSign}
+use Rattle.fused.specs.Fused.{fmaOf, signOfSum, squareUnits, FmaNearest, Fused}
+use Rattle.whole_fma.proofs.Sums.{sum-is, fma-value}
 
 -- of ±A / c, ±B / c and ±C / c
 module _ (f : Format) (x y z : Float) (s t u : Bool) (A B C c : ℕ) (P : 0 < c) (X : HasValue x s A c) (Y : HasValue y t B c) (Z : HasValue z u C c) where

@@ -1,0 +1,4 @@
+-- What is right, and what the steps to it compute.
+pub mod MultiplyAdd
+pub mod SignAndSize
+pub mod TwoLimbs
