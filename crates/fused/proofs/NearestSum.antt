@@ -11,9 +11,9 @@ use lib.Ieee.Exact.{HasValue}
 use Rattle.number.specs.Units.{unitsOf}
 use Rattle.number.specs.Leaves.{negative}
 use Rattle.number.proofs.Patterns.{units-value}
-use Rattle.rounding.specs.Nearness.{fraction, Nearest}
-use Rattle.rounding.proofs.Nearness.{round-nearest}
-use Rattle.rounding.proofs.OneNearest.{only-fraction}
+use Rattle.nearness.specs.Nearness.{fraction, Nearest}
+use Rattle.nearness.proofs.RoundNearest.{round-nearest}
+use Rattle.nearness.proofs.OneNearest.{only-fraction}
 use Rattle.whole_fma.specs.MultiplyAdd.{exactSize, exactSign}
 use Rattle.fused.specs.Fused.{fmaOf, signOfSum, squareUnits, FmaNearest, Fused}
 use Rattle.whole_fma.proofs.Sums.{sum-is, fma-value}

@@ -7,7 +7,7 @@ use lib.Ieee.{Float, Format, low, unlike}
 use lib.Ieee.Scale.{finite}
 use Rattle.number.specs.Units.{unitsOf}
 use Rattle.number.specs.Leaves.{negative}
-use Rattle.rounding.specs.Nearness.{Size, fraction, Nearest, OnlyNearest}
+use Rattle.nearness.specs.Nearness.{Size, fraction, Nearest, OnlyNearest}
 use Rattle.whole_fma.specs.MultiplyAdd.{exactSize, exactSign}
 unfoldable pub use Rattle.whole_fma.specs.MultiplyAdd.{infPlus, fmaOf}
 

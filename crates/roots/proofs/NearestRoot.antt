@@ -1,4 +1,4 @@
--- The theorems: `sqrtOf` and `hypotOf` are nearest in the sense of rounding's specs/Nearness, in every format, and no other value is.
+-- The theorems: `sqrtOf` and `hypotOf` are nearest in the sense of nearness' specs/Nearness, in every format, and no other value is.
 use mathlib.Core.Path.{_≡_, ap₂, subst⁻¹}
 use mathlib.Core.Logic.{⊎-elim}
 use Prim.Native.Nat.{ℕ, zero, suc, _+_, _*_, _^_, _≤_, _<_}
@@ -8,9 +8,9 @@ use mathlib.Core.Bool.{true, false}
 use lib.Pow.{pow-pos}
 use lib.Ieee.{Float, nan, inf, fin, Format, low}
 use Rattle.number.specs.Units.{unitsOf}
-use Rattle.rounding.specs.Nearness.{fraction, rootOf, Nearest}
-use Rattle.rounding.proofs.Nearness.{round-nearest, Same, nearest-same}
-use Rattle.rounding.proofs.OneNearest.{only-root}
+use Rattle.nearness.specs.Nearness.{fraction, rootOf, Nearest}
+use Rattle.nearness.proofs.RoundNearest.{round-nearest, Same, nearest-same}
+use Rattle.nearness.proofs.OneNearest.{only-root}
 use Rattle.roots.specs.Root.{isqrt, stickRoot, rootNearest, sqrtOf, SqrtNearest, Rooted}
 use Rattle.roots.specs.Hypot.{hypotOf, HypotNearest, Spanned}
 use Rattle.roots.proofs.Roots.{isqrt-is, square-lt, stickRoot-is}

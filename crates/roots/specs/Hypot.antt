@@ -6,7 +6,7 @@ use lib.Dec.{T}
 use lib.Ieee.{Float, nan, inf, fin, Format}
 use lib.Ieee.Scale.{finite}
 use Rattle.number.specs.Units.{unitsOf}
-use Rattle.rounding.specs.Nearness.{Size, rootOf, Nearest, OnlyNearest}
+use Rattle.nearness.specs.Nearness.{Size, rootOf, Nearest, OnlyNearest}
 use Rattle.roots.specs.Root.{rootNearest}
 
 unfoldable pub hypotOf : Format → Float → Float → Float

@@ -6,7 +6,7 @@ use lib.Dec.{T, leb}
 use lib.Ieee.{Float, nan, inf, fin, Format, low, size, round}
 use lib.Ieee.Positive.{positive}
 use Rattle.number.specs.Units.{unitsOf}
-use Rattle.rounding.specs.Nearness.{Size, rootOf, Nearest, OnlyNearest}
+use Rattle.nearness.specs.Nearness.{Size, rootOf, Nearest, OnlyNearest}
 
 -- The whole part of n's root, for an n of at most k digits in base 4: twice that of n / 4, or one more.
 unfoldable pub rootIn : ℕ → ℕ → ℕ

@@ -13,8 +13,8 @@ use lib.Ieee.Bits.{ofBits-fits}
 use lib.Ieee.Scale.{finite}
 use Rattle.number.specs.Units.{unitsOf}
 use Rattle.number.proofs.Patterns.{sizeAt, pattern-signed, sizes-rise, units-of-pattern, Pattern, pattern-below}
-use Rattle.rounding.specs.Nearness.{Size, fraction, rootOf, Closest, Nearest, OnlyNearest}
+use Rattle.nearness.specs.Nearness.{Size, fraction, rootOf, Closest, Nearest, OnlyNearest}
 use Rattle.rounding.proofs.Compare.{Cmp, cmp}
 
 -- What a size has to keep: it is not at most one number and at least a larger one.
 abbrev Ordered : Size → Type 0

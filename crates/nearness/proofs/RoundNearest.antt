@@ -16,11 +16,11 @@ use lib.Ieee.Order.{drop, kept}
 use lib.Ieee.Scale.{finite, overflow}
 use Rattle.number.specs.Units.{unitsOf}
 use Rattle.number.proofs.Patterns.{units-of-value}
-use Rattle.rounding.specs.Nearness.{Size, fraction, limit, Closest, Nearest}
+use Rattle.nearness.specs.Nearness.{Size, fraction, limit, Closest, Nearest}
 use Rattle.rounding.proofs.Compare.{Cmp, cmp}
 use Rattle.rounding.proofs.Powers.{pow-le-back, pow-lt-back}
-use Rattle.rounding.proofs.Kept.{Held, nearest-above, nearest-below, full-kept, kept-top, below-half, from-half}
+use Rattle.nearness.proofs.Kept.{Held, nearest-above, nearest-below, full-kept, kept-top, below-half, from-half}
 use Rattle.rounding.proofs.Pack.{pattern}
 
 -- ---- a value that a format holds has at most its digits, in units
 held-at : (p l m : ℕ) (e : ℤ) → m < 2 ^ p → down e ≤ 2 ^ l → Held p (m * up e * 2 ^ l / down e)
