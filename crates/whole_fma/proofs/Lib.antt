@@ -3,5 +3,5 @@ pub mod Cuts
 pub mod Borrows
 pub mod Sums
 pub mod Windowed
-pub mod Operands
+pub mod InWindows
 pub mod Specials

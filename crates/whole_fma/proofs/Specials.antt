@@ -13,7 +13,7 @@ use lib.Ieee.Fits.{up-pos, down-pos}
 use lib.Ieee.Scale.{round-same}
 use lib.Ieee.Compare.{differs-from-itself, nan-differs}
 use Rattle.whole_fma.specs.MultiplyAdd.{infPlus, fmaOf}
-use Rattle.whole_fma.specs.SignAndSize.{isSpecial}
+use Rattle.operands.specs.SignAndSize.{isSpecial}
 use Rattle.whole_fma.proofs.Sums.{sum-same, sum-at, exact-like, exact-more}
 
 -- ---- NaN

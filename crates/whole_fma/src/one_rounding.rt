@@ -1,17 +1,17 @@
 // 01: "Fused multiply-add of x, y, z: nearest to xy + z, one rounding; IEEE 754 for zeros and infinities." In whole numbers, whatever the operands.
-use crate::patterns::all_normal;
-use crate::patterns::special;
-use crate::patterns::split;
 use crate::window::aligned;
 use crate::window::joined;
 use crate::window::narrow;
 use limbs::wide::product;
+use operands::patterns::all_normal;
+use operands::patterns::special;
+use operands::patterns::split;
 use rounding::packing::rounded;
 ghost use mathlib.Core.Path.{_≡_};
 ghost use mathlib.Core.Bool.{_||_, false};
 ghost use lib.Ieee.{binary64, isNan, ofBits};
 ghost use Rattle.whole_fma.specs.MultiplyAdd.{fmaOf};
-ghost use Rattle.whole_fma.specs.SignAndSize.{isSpecial};
+ghost use Rattle.operands.specs.SignAndSize.{isSpecial};
 
 fn some_nan(x: f64, y: f64, z: f64) -> bool
     ensures { λ r. ⌜ r ≡ (isNan x || (isNan y || isNan z)) ⌝ }

@@ -6,11 +6,12 @@ use borrow.Author.Needs.{needs}
 use lib.Ieee.{binary64, unlike, ofBits, sum}
 use Rattle.limbs.specs.declared.wide.Wide.{Wide}
 use Rattle.rounding.specs.Packing.{deep}
-use Rattle.whole_fma.specs.declared.patterns.Triple.{Triple}
+use Rattle.operands.specs.declared.patterns.Triple.{Triple}
 use Rattle.whole_fma.specs.MultiplyAdd.{fmaOf}
-use Rattle.whole_fma.specs.SignAndSize.{signBit}
+use Rattle.operands.specs.SignAndSize.{signBit}
 use Rattle.whole_fma.specs.TwoLimbs.{whole}
-use Rattle.whole_fma.proofs.Operands.{digits, exponent-small, code-windows, code-sum}
+use Rattle.operands.proofs.Operands.{digits, exponent-small}
+use Rattle.whole_fma.proofs.InWindows.{code-windows, code-sum}
 use Rattle.whole_fma.proofs.Windowed.{Windows, below-sign, steps-alike}
 use Rattle.whole_fma.proofs.one_rounding.finite.Statement.{statement}
 use Rattle.whole_fma.proofs.one_rounding.finite.Tie as tie

@@ -7,8 +7,8 @@ use lib.Dec.{T}
 use lib.Ieee.{Float, binary64, fits, isNan, ofBits, toBits}
 use lib.Ieee.Bits.{ofBits-toBits, toBits-lt}
 use Rattle.whole_fma.specs.MultiplyAdd.{fmaOf}
-use Rattle.whole_fma.specs.SignAndSize.{isSpecial, isNormal}
-use Rattle.whole_fma.proofs.Operands.{all-true, normal-not-special}
+use Rattle.operands.specs.SignAndSize.{isSpecial, isNormal}
+use Rattle.operands.proofs.Operands.{all-true, normal-not-special}
 use Rattle.whole_fma.proofs.Specials.{nan-operand, no-nan, special-factor, zero-addend, infinite-addend}
 use Rattle.whole_fma.proofs.one_rounding.in_whole_numbers.Statement.{statement}
 use Rattle.whole_fma.proofs.one_rounding.in_whole_numbers.Tie as tie

@@ -1,6 +1,6 @@
-use Rattle.whole_fma.proofs.Operands.{special-zero, special-rest}
-use Rattle.whole_fma.proofs.patterns.special.Statement.{statement}
-use Rattle.whole_fma.proofs.patterns.special.Tie as tie
+use Rattle.operands.proofs.Operands.{special-zero, special-rest}
+use Rattle.operands.proofs.patterns.special.Statement.{statement}
+use Rattle.operands.proofs.patterns.special.Tie as tie
 
 returns : tie.Need-returns
 returns c = special-zero (c .before .args .b) (c .before .fits .b .fits) (c .if1 .taken)

@@ -1,4 +1,4 @@
--- The operands' patterns. The contracts of the private functions cite these; what is right is said by `fmaOf` alone.
+-- What a pattern says of its value before it is taken apart.
 use mathlib.Core.Path.{_≡_}
 use Prim.Native.Nat.{ℕ, _%_, _^_}
 use mathlib.Core.Bool.{Bool, true, _&&_}

@@ -1,9 +1,9 @@
 use mathlib.Core.Path.{sym, _∙_}
-use Rattle.whole_fma.specs.SignAndSize.{isNormal}
-use Rattle.whole_fma.proofs.Operands.{all-true, code-fields}
+use Rattle.operands.specs.SignAndSize.{isNormal}
+use Rattle.operands.proofs.Operands.{all-true, code-fields}
 use borrow.Author.Needs.{needs}
-use Rattle.whole_fma.proofs.patterns.split.Statement.{statement}
-use Rattle.whole_fma.proofs.patterns.split.Tie as tie
+use Rattle.operands.proofs.patterns.split.Statement.{statement}
+use Rattle.operands.proofs.patterns.split.Tie as tie
 
 all-normal-requires : tie.Need-all-normal-requires
 all-normal-requires c κs = search needs

@@ -1,7 +1,7 @@
-use Rattle.whole_fma.proofs.Operands.{code-normal}
+use Rattle.operands.proofs.Operands.{code-normal}
 use borrow.Author.Needs.{needs}
-use Rattle.whole_fma.proofs.patterns.normal.Statement.{statement}
-use Rattle.whole_fma.proofs.patterns.normal.Tie as tie
+use Rattle.operands.proofs.patterns.normal.Statement.{statement}
+use Rattle.operands.proofs.patterns.normal.Tie as tie
 
 wrapping-sub-u64-requires : tie.Need-wrapping-sub-u64-requires
 wrapping-sub-u64-requires c κs = search needs

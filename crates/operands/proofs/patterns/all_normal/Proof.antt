@@ -1,9 +1,9 @@
 use mathlib.Core.Path.{sym, ap, ap₂, _∙_}
 use mathlib.Core.Bool.{Bool, _&&_}
-use Rattle.whole_fma.specs.SignAndSize.{isNormal}
+use Rattle.operands.specs.SignAndSize.{isNormal}
 use borrow.Author.Needs.{needs}
-use Rattle.whole_fma.proofs.patterns.all_normal.Statement.{statement}
-use Rattle.whole_fma.proofs.patterns.all_normal.Tie as tie
+use Rattle.operands.proofs.patterns.all_normal.Statement.{statement}
+use Rattle.operands.proofs.patterns.all_normal.Tie as tie
 
 normal-requires : tie.Need-normal-requires
 normal-requires c κs = search needs

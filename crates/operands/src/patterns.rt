@@ -5,17 +5,17 @@ use rounding::packing::unpacked;
 ghost use mathlib.Core.Path.{_≡_};
 ghost use mathlib.Core.Bool.{_&&_, true};
 ghost use lib.Ieee.{binary64, ofBits};
-ghost use Rattle.whole_fma.specs.SignAndSize.{isSpecial, isNormal, Unpacked};
+ghost use Rattle.operands.specs.SignAndSize.{isSpecial, isNormal, Unpacked};
 
 // The parts of the three operands.
-pub(crate) struct Triple {
+pub struct Triple {
     pub x: Parts,
     pub y: Parts,
     pub z: Parts,
 }
 
 // Whether a pattern is a zero's, an infinity's or a NaN's.
-pub(crate) fn special(b: u64) -> bool
+pub fn special(b: u64) -> bool
     ensures { λ r. ⌜ r ≡ isSpecial (ofBits binary64 b) ⌝ }
 {
     let p = b % 0x8000_0000_0000_0000;
@@ -32,7 +32,7 @@ fn normal(b: u64) -> bool
     std::num::wrapping_sub_u64((b >> 52) % 2048, 1) < 2046
 }
 
-pub(crate) fn all_normal(a: u64, b: u64, c: u64) -> bool
+pub fn all_normal(a: u64, b: u64, c: u64) -> bool
     ensures { λ r. ⌜ r ≡ (isNormal a && (isNormal b && isNormal c)) ⌝ }
 {
     if normal(a) {
@@ -45,7 +45,7 @@ pub(crate) fn all_normal(a: u64, b: u64, c: u64) -> bool
 
 // The parts of three patterns. Most often all are normal, and no more than that is tested. Else each is unpacked by itself, where the count of leading
 // zero bits brings a subnormal's leading digit up.
-pub(crate) fn split(a: u64, b: u64, c: u64) -> Triple
+pub fn split(a: u64, b: u64, c: u64) -> Triple
     ensures { λ r. ⌜ Unpacked a (r .x .m) (r .x .k) × Unpacked b (r .y .m) (r .y .k) × Unpacked c (r .z .m) (r .z .k) ⌝ }
 {
     if all_normal(a, b, c) {
