@@ -34,7 +34,13 @@ module _ (c : tie.After-split) where
     lt-of-le-of-lt (le-of-eq (c .split .ensures .2 .1)) (exponent-small (c .before .args .c) (c .before .fits .c .fits) (c .before .pre .2)),
   )
 
--- where the factors are multiplied
+-- where the factors are multiplied, and back from there
+abbrev parted : tie.After-product → tie.After-split
+parted c = c .before .before .before
+
+abbrev multiplied : tie.After-aligned → tie.After-product
+multiplied c = c .before .before .before .before
+
 module _ (c : tie.After-product) where
   abbrev s : tie.Start
   s = c .before .before .before .before
@@ -72,30 +78,30 @@ product-requires : tie.Need-product-requires
 product-requires c κs = search needs
 
 add-aligned : tie.Need-add-aligned
-add-aligned c = record { fits = omega (arith, exponents (c .before .before .before .before)) }
+add-aligned c = record { fits = omega (arith, exponents (parted (c .before))) }
 
 add-aligned-2 : tie.Need-add-aligned-2
-add-aligned-2 c = record { fits = omega (arith, exponents (c .before .before .before .before)) }
+add-aligned-2 c = record { fits = omega (arith, exponents (parted (c .before))) }
 
 mul-aligned : tie.Need-mul-aligned
 mul-aligned c = record { fits = omega (arith, in-windows (c .before .before) .h-high) }
 
 add-aligned-3 : tie.Need-add-aligned-3
-add-aligned-3 c = record { fits = omega (arith, exponents (c .before .before .before .before .before .before)) }
+add-aligned-3 c = record { fits = omega (arith, exponents (parted (c .before .before .before))) }
 
 aligned-requires : tie.Need-aligned-requires
 aligned-requires c κs = search needs
 
 joined-requires : tie.Need-joined-requires
 joined-requires c κs =
-    let d = c .before .before .before .before in
+    let d = multiplied c in
     let p = c .aligned in
     below-sign (unlike (signBit (s d .args .a)) (signBit (s d .args .b))) (signBit (s d .args .c)) (whole (xy d)) (o d .x .k + o d .y .k + 126) (o d .z .m * 512) (o d .z .k + 1200) (in-windows d)
     (p .result .a) (p .result .b) (p .result .k) (p .ensures)
 
 narrow-requires : tie.Need-narrow-requires
 narrow-requires c κs =
-    let d = c .before .before .before .before .before .before .before .before in
+    let d = parted (multiplied (c .before)) in
     let o = d .split .result in
     let p = c .before .aligned in
     larger (o .x .k + o .y .k + 126) (o .z .k + 1200) (p .result .k) (p .ensures .2) (omega (arith, exponents d)) (omega (arith, exponents d))
@@ -105,7 +111,7 @@ rounded-requires c κs = search needs
 
 returns : tie.Need-returns
 returns c =
-    let d = c .before .before .before .before .before .before .before in
+    let d = multiplied (c .before .before .before) in
     let p = c .before .before .before .aligned in
     let t = c .before .before .joined in
     let r = c .before .narrow in
