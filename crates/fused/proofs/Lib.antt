@@ -1,9 +1,3 @@
 -- The laws, in reading order.
-pub mod Cuts
-pub mod Borrows
-pub mod Sums
-pub mod Windowed
-pub mod Operands
-pub mod Specials
-pub mod Nearest
+pub mod NearestSum
 pub mod Settled

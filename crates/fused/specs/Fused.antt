@@ -1,32 +1,32 @@
--- The fused multiply-add, over any format. 01: "Fused multiply-add of x, y, z: nearest to xy + z, one rounding; IEEE 754 for zeros and infinities."
-use Prim.Native.Nat.{ℕ, _+_, _-_, _*_}
-use mathlib.Core.Bool.{Bool, _&&_, Bool·beq, cond}
-use lib.Dec.{ltb, eqb}
-use lib.Ieee.{Float, nan, inf, fin, Format, up, down, unlike, sum}
+-- What is promised of the fused multiply-add. 01: "nearest to xy + z, one rounding". What it is, `fmaOf`, is said in crate whole_fma.
+use mathlib.Core.Path.{_≡_}
+use Prim.Native.Nat.{ℕ, _*_, _^_}
+use mathlib.Core.Bool.{Bool}
+use lib.Dec.{T}
+use lib.Ieee.{Float, Format, low, unlike}
+use lib.Ieee.Scale.{finite}
+use Rattle.number.specs.Units.{unitsOf}
+use Rattle.number.specs.Leaves.{negative}
+use Rattle.nearness.specs.Nearness.{Size, fraction, Nearest, OnlyNearest}
+use Rattle.whole_fma.specs.MultiplyAdd.{exactSize, exactSign}
+unfoldable pub use Rattle.whole_fma.specs.MultiplyAdd.{infPlus, fmaOf}
 
--- an infinite product with the sign s, and z added: infinities of both signs have no sum
-unfoldable pub infPlus : Bool → Float → Float
-infPlus s nan = nan
-infPlus s (inf u) = cond (Bool·beq s u) (inf s) nan
-infPlus s (fin u l g) = inf s
+-- of xy + z, of finite values: X units times Y units are X * Y square units, and Z units are Z * 2 ^ low f
+abbrev pub signOfSum : Format → Float → Float → Float → Bool
+signOfSum f x y z = exactSign (unlike (negative x) (negative y)) (unitsOf f x * unitsOf f y) (negative z) (unitsOf f z * 2 ^ low f)
 
--- An infinity times a zero is a NaN. Of finite values the product is exact, over one denominator with the addend, and `sum` rounds once; a sum that is
--- exactly zero is -0 where the product and the addend are both negative, and +0 otherwise.
-unfoldable pub fmaOf : Format → Float → Float → Float → Float
-unfolding sum infPlus
-fmaOf f nan y z = nan
-fmaOf f (inf s) nan z = nan
-fmaOf f (inf s) (inf t) z = infPlus (unlike s t) z
-fmaOf f (inf s) (fin t n d) z = cond (eqb n 0) nan (infPlus (unlike s t) z)
-fmaOf f (fin s m e) nan z = nan
-fmaOf f (fin s m e) (inf t) z = cond (eqb m 0) nan (infPlus (unlike s t) z)
-fmaOf f (fin s m e) (fin t n d) nan = nan
-fmaOf f (fin s m e) (fin t n d) (inf u) = inf u
-fmaOf f (fin s m e) (fin t n d) (fin u l g) = sum f (unlike s t) (m * up e * (n * up d) * down g) u (l * up g * (down e * down d)) (down e * down d * down g)
+abbrev pub squareUnits : Format → Float → Float → Float → ℕ
+squareUnits f x y z = exactSize (unlike (negative x) (negative y)) (unitsOf f x * unitsOf f y) (negative z) (unitsOf f z * 2 ^ low f)
 
--- ---- the exact sum of ±a and ±b: its size, and its sign, with that of a zero as above
-abbrev pub exactSize : Bool → ℕ → Bool → ℕ → ℕ
-exactSize s a t b = cond (Bool·beq s t) (a + b) (cond (ltb a b) (b - a) (a - b))
+abbrev pub exactSum : Format → Float → Float → Float → Size
+exactSum f x y z = fraction f (squareUnits f x y z) (2 ^ low f * 2 ^ low f)
 
-abbrev pub exactSign : Bool → ℕ → Bool → ℕ → Bool
-exactSign s a t b = cond (Bool·beq s t) s (cond (ltb a b) t (s && ltb b a))
+-- "nearest to xy + z": of finite x, y and z, r is the value of f nearest to it
+abbrev pub FmaNearest : Format → Float → Float → Float → Float → Type 0
+FmaNearest f x y z r = T (finite x) → T (finite y) → T (finite z) → Nearest f (signOfSum f x y z) (exactSum f x y z) r
+
+-- r is the fused multiply-add of x, y and z, and where 01 says "nearest" no other value is
+pub record Fused (f : Format) (x y z r : Float) : Type 0 where
+  pub is : r ≡ fmaOf f x y z
+  pub nearest : FmaNearest f x y z r
+  pub only : T (finite x) → T (finite y) → T (finite z) → OnlyNearest f (signOfSum f x y z) (exactSum f x y z) r

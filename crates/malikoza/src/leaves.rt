@@ -1,4 +1,5 @@
-// The number leaves on patterns. They refuse nothing.
+// The number leaves on patterns. They refuse nothing. Of the root, fused multiply-add and hypot the contract gives the pattern, and says that what it reads
+// as is nearest to the exact value, and that no other value is.
 use fused::multiply_add;
 use number::pattern::double_of;
 use number::pattern::pattern_of;
@@ -10,27 +11,29 @@ use roots::square_root;
 ghost use mathlib.Core.Path.{_≡_};
 ghost use lib.Ieee.{binary64, ofBits, toBits};
 ghost use Rattle.number.specs.Leaves.{nextDown, minimum, maximum, absolute, wholePart};
-ghost use Rattle.roots.specs.Root.{sqrtOf};
-ghost use Rattle.roots.specs.Hypot.{hypotOf};
-ghost use Rattle.fused.specs.Fused.{fmaOf};
+ghost use Rattle.roots.specs.Root.{sqrtOf, Rooted};
+ghost use Rattle.roots.specs.Hypot.{hypotOf, Spanned};
+ghost use Rattle.fused.specs.Fused.{fmaOf, Fused};
 
 #[no_mangle]
 pub extern "C" fn malikoza_sqrt(x: u64) -> u64
-    ensures { λ r. ⌜ r ≡ toBits binary64 (sqrtOf binary64 (ofBits binary64 x)) ⌝ }
+    ensures { λ r. ⌜ (r ≡ toBits binary64 (sqrtOf binary64 (ofBits binary64 x))) × Rooted binary64 (ofBits binary64 x) (ofBits binary64 r) ⌝ }
 {
     pattern_of(square_root::sqrt(double_of(x)))
 }
 
 #[no_mangle]
 pub extern "C" fn malikoza_fma(x: u64, y: u64, z: u64) -> u64
-    ensures { λ r. ⌜ r ≡ toBits binary64 (fmaOf binary64 (ofBits binary64 x) (ofBits binary64 y) (ofBits binary64 z)) ⌝ }
+    ensures { λ r. ⌜ (r ≡ toBits binary64 (fmaOf binary64 (ofBits binary64 x) (ofBits binary64 y) (ofBits binary64 z)))
+        × Fused binary64 (ofBits binary64 x) (ofBits binary64 y) (ofBits binary64 z) (ofBits binary64 r) ⌝ }
 {
     pattern_of(multiply_add::fma(double_of(x), double_of(y), double_of(z)))
 }
 
 #[no_mangle]
 pub extern "C" fn malikoza_hypot(x: u64, y: u64) -> u64
-    ensures { λ r. ⌜ r ≡ toBits binary64 (hypotOf binary64 (ofBits binary64 x) (ofBits binary64 y)) ⌝ }
+    ensures { λ r. ⌜ (r ≡ toBits binary64 (hypotOf binary64 (ofBits binary64 x) (ofBits binary64 y)))
+        × Spanned binary64 (ofBits binary64 x) (ofBits binary64 y) (ofBits binary64 r) ⌝ }
 {
     pattern_of(hypot::hypot(double_of(x), double_of(y)))
 }

@@ -18,11 +18,11 @@ Within {A} l k = (x : A) → List·Memᴰ x l → List·Memᴰ x k
 pub record Semilattice {A : Type 0} (P : A → Type 0) (op : A → A → A) : Type 0 where
   pub closed : (x y : A) → P x → P y → P (op x y)
   pub commutative : (x y : A) → P x → P y → op x y ≡ op y x
-  pub associative : (x y z : A) → P x → P y → P z → op (op x y) z ≡ op x (op y z)
-  pub idempotent : (x : A) → P x → op x x ≡ x
+  associative : (x y z : A) → P x → P y → P z → op (op x y) z ≡ op x (op y z)
+  idempotent : (x : A) → P x → op x x ≡ x
 
 module _ {A : Type 0} (P : A → Type 0) (op : A → A → A) (S : Semilattice P op) where
-  pub fold-closed : (b : A) (l : List A) → P b → All P l → P (foldl op b l)
+  fold-closed : (b : A) (l : List A) → P b → All P l → P (foldl op b l)
   fold-closed b [] B L = B
   fold-closed b (x ∷ xs) B L = fold-closed (op b x) xs (S .closed b x B (L .0)) (L .1)
 

@@ -9,5 +9,5 @@ pub mod Patterns
 pub mod Neighbour
 pub mod Sizes
 pub mod Picks
-pub mod Steps
+pub mod Downward
 pub mod Reading

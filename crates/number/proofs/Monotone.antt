@@ -135,7 +135,7 @@ unfolding neg
 infinite-neg true s t h = refl
 infinite-neg false s t h = ap inf h
 
-pub mul-neg : (f : Format) (x y : Float) → mul f (neg x) y ≡ neg (mul f x y)
+mul-neg : (f : Format) (x y : Float) → mul f (neg x) y ≡ neg (mul f x y)
 unfolding mul neg
 mul-neg f nan y = refl
 mul-neg f (inf s) nan = refl
@@ -186,7 +186,7 @@ mul-turns f c x y C z p q h =
 
 -- ---- the quotient by a finite constant that is not zero
 
-pub div-neg : (f : Format) (x y : Float) → div f x (neg y) ≡ neg (div f x y)
+div-neg : (f : Format) (x y : Float) → div f x (neg y) ≡ neg (div f x y)
 unfolding div neg
 div-neg f nan y = refl
 div-neg f (inf s) nan = refl

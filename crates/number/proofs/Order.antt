@@ -275,7 +275,7 @@ le-neg (fin s m e) (inf false) h = tt
 le-neg (fin s m e) (fin t n d) h =
     →at-most (not t) (n * up d * down e) (not s) (m * up e * down d) (mirror s (m * up e * down d) t (n * up d * down e) (at-most→ s (m * up e * down d) t (n * up d * down e) h))
 
-pub neg-neg : (x : Float) → neg (neg x) ≡ x
+neg-neg : (x : Float) → neg (neg x) ≡ x
 unfolding neg
 neg-neg nan = refl
 neg-neg (inf true) = refl

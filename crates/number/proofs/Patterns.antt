@@ -4,7 +4,9 @@ use mathlib.Core.Path.{_≡_, refl, sym, ap, ap₂, _∙_, subst}
 use mathlib.Core.Logic.{_⊎_, inl, inr}
 use mathlib.Core.Bool.{Bool, true, false, not, cond}
 use Prim.Native.Nat.{ℕ, zero, suc, _+_, _-_, _*_, _/_, _%_, _^_, _≤_, _<_}
-use native.Mathlib.Nat.{le-trans, le-of-eq, lt-of-lt-of-le, lt-of-not-le, lt-trans, lt-irrefl, eq-zero-or-pos, eq-or-lt-of-le, zero-add, zero-mul, mul-one, mul-assoc, mul-right-comm, mul-pos, mul-le-mul-left, mul-le-mul-right, mul-lt-mul-of-pos-right, div-add-mod', div-eq-of-lt, mod-eq-of-lt, mod-lt, mod-eq-sub-mod, add-mod-left, mul-add-mod-self-left, mul-div-cancel, mul-mod-left, div-lt-iff-lt-mul, pow-suc, pow-succ', zero-lt-suc, le-add-right}
+use native.Mathlib.Nat.{le-trans, le-of-eq, lt-of-lt-of-le, lt-of-not-le, lt-trans, lt-irrefl, eq-zero-or-pos, eq-or-lt-of-le, zero-add, zero-mul, mul-one}
+use native.Mathlib.Nat.{mul-assoc, mul-right-comm, mul-pos, mul-le-mul-left, mul-le-mul-right, mul-lt-mul-of-pos-right, div-add-mod', div-eq-of-lt, mod-eq-of-lt, mod-lt, mod-eq-sub-mod}
+use native.Mathlib.Nat.{add-mod-left, mul-add-mod-self-left, mul-div-cancel, mul-mod-left, div-lt-iff-lt-mul, pow-suc, pow-succ', zero-lt-suc, le-add-right}
 use native.Mathlib.Omega.{arith}
 use borrow.Author.Tests.{lt-ltb, le-ltb, le-leb, lt-leb, ne-eqb, eq-eqb}
 use lib.Dec.{T, leb, ltb, eqb, leb→le, nleb→lt, nltb→le}
@@ -171,7 +173,7 @@ sizes-tell f a b h = lt-of-not-le (λ g. elim (eq-or-lt-of-le g) [ inl e ↦ lt-
 
 -- ---- from a value to its units
 
-pub units-of-fraction : (f : Format) (x : Float) (s : Bool) (a c : ℕ) → 0 < c → HasValue x s a c → unitsOf f x ≡ a * 2 ^ low f / c
+units-of-fraction : (f : Format) (x : Float) (s : Bool) (a c : ℕ) → 0 < c → HasValue x s a c → unitsOf f x ≡ a * 2 ^ low f / c
 units-of-fraction f nan s a c C h = absurd h
 units-of-fraction f (inf t) s a c C h = absurd h
 units-of-fraction f (fin t m e) s a c C h =

@@ -1,11 +1,11 @@
--- Which patterns are a NaN's, and which one is written for it.
+-- Which patterns are a NaN's, and which one is written for it. What is written reads as it was.
 use mathlib.Core.Path.{_≡_, refl, sym, ap, _∙_, subst}
 use mathlib.Core.Bool.{Bool, true, false, not}
 use Prim.Native.Nat.{ℕ, _%_, _<_, _^_}
 use borrow.Author.Tests.{lt-ltb}
 use lib.Dec.{T}
-use lib.Ieee.{Float, nan, binary64, ne, div, isNan, ofBits, toBits}
-use lib.Ieee.Bits.{nanBits-is, nanBits-above}
+use lib.Ieee.{Float, nan, binary64, ne, div, isNan, fits, ofBits, toBits}
+use lib.Ieee.Bits.{nanBits-is, nanBits-above, ofBits-toBits}
 use lib.Ieee.Compare.{differs-from-itself}
 use Rattle.number.proofs.Order.{holds, is-nan}
 
@@ -22,3 +22,6 @@ nan-written x e = nan-bits ∙ sym (ap (toBits binary64) (differs-from-itself x 
 pub zero-by-zero : div binary64 (ofBits binary64 0) (ofBits binary64 0) ≡ nan
 unfolding div ofBits
 zero-by-zero = refl
+
+pub reads-back : (x : Float) (n : ℕ) → fits binary64 x ≡ true → n ≡ toBits binary64 x → ofBits binary64 n ≡ x
+reads-back x n F e = ap (ofBits binary64) e ∙ ofBits-toBits binary64 x (holds F)

@@ -4,9 +4,9 @@ pub mod Rounds
 pub mod RootLaw
 pub mod Parted
 pub mod Sqrts
-pub mod Cases
+pub mod HypotCases
 pub mod Shifts
 pub mod Squares
 pub mod Far
 pub mod Lengths
-pub mod Nearest
+pub mod NearestRoot

@@ -6,7 +6,7 @@ ghost use lib.Dec.{ltb};
 ghost use lib.Ieee.{binary64, ofBits};
 ghost use Rattle.rounding.specs.Packing.{significand, exponent};
 ghost use Rattle.roots.specs.CutRoot.{stickMore};
-ghost use Rattle.roots.specs.Hypot.{hypotOf};
+ghost use Rattle.roots.specs.Hypot.{hypotOf, Spanned};
 use crate::floor_root;
 use limbs::wide;
 use limbs::wide::Wide;
@@ -133,7 +133,7 @@ fn in_order(a: u64, b: u64) -> Sorted
 
 // "An infinite part gives plus infinity; else a NaN part gives NaN; else nearest to the root of x² + y²."
 pub fn hypot(x: f64, y: f64) -> f64
-    ensures { λ r. ⌜ r ≡ hypotOf binary64 x y ⌝ }
+    ensures { λ r. ⌜ Spanned binary64 x y r ⌝ }
 {
     let s = in_order(
         pattern::pattern_of(x) % 0x8000_0000_0000_0000,

@@ -2,7 +2,7 @@
 ghost use mathlib.Core.Path.{_≡_};
 ghost use Prim.Native.Nat.{_<_};
 ghost use lib.Ieee.{binary64, ofBits};
-ghost use Rattle.roots.specs.Root.{sqrtOf};
+ghost use Rattle.roots.specs.Root.{sqrtOf, Rooted};
 use crate::floor_root;
 use rounding::packing;
 
@@ -22,7 +22,7 @@ fn positive_root(b: u64) -> f64
 
 // "Plus and minus zero and plus infinity give themselves; other negatives and NaN give NaN; else the nearest." The last is tried first.
 pub fn sqrt(x: f64) -> f64
-    ensures { λ r. ⌜ r ≡ sqrtOf binary64 x ⌝ }
+    ensures { λ r. ⌜ Rooted binary64 x r ⌝ }
 {
     if x > 0.0 {
         let b = f64::to_bits(x);

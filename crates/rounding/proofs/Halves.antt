@@ -15,17 +15,17 @@ module _ (w b h : ℕ) (e : b ≡ 2 * h) where
   pub near-lt : w % b < h → w / b ≡ closest w b
   near-lt l = sym (ap (nearest (w / b)) (cmp-lt (w % b * 2) b (omega arith)))
 
-  pub near-gt : h < w % b → w / b + 1 ≡ closest w b
+  near-gt : h < w % b → w / b + 1 ≡ closest w b
   near-gt l = omega arith ∙ sym (ap (nearest (w / b)) (cmp-gt (w % b * 2) b (omega arith)))
 
-  pub near-eq : w % b ≡ h → w / b + w / b % 2 ≡ closest w b
+  near-eq : w % b ≡ h → w / b + w / b % 2 ≡ closest w b
   near-eq l = sym (ap (nearest (w / b)) (cmp-eq (w % b * 2) b (omega arith)))
 
 -- the code's remainder, and its half
 pub rest-is : (n w sh : ℕ) → w < n → w - w / 2 ^ sh * 2 ^ sh % n ≡ w % 2 ^ sh
 rest-is n w sh h = ap (λ (x : ℕ). w - x) (mod-eq-of-lt (lt-of-le-of-lt (div-mul-le-self w (2 ^ sh)) h)) ∙ sym (mod-eq-sub-div-mul w (2 ^ sh))
 
-pub one-is : (j k : ℕ) → j < k → 1 * 2 ^ j % 2 ^ k ≡ 2 ^ j
+one-is : (j k : ℕ) → j < k → 1 * 2 ^ j % 2 ^ k ≡ 2 ^ j
 one-is j k h = ap (λ (x : ℕ). x % 2 ^ k) (one-mul (2 ^ j)) ∙ mod-eq-of-lt (pow-lt h)
 
 -- a shift past the word

@@ -3,11 +3,8 @@ pub mod Compare
 pub mod Powers
 pub mod Sticks
 pub mod StickyLaw
-pub mod Kept
 pub mod Halves
 pub mod Leading
 pub mod Pack
 pub mod Scaled
 pub mod Unpack
-pub mod Nearness
-pub mod OneNearest

@@ -1,3 +1,2 @@
 pub mod Stick
 pub mod Packing
-pub mod Nearness

@@ -1,2 +1,2 @@
-// The one rounding argument: what "nearest" means, and the two functions where a double's pattern is taken apart and put together.
+// Where a double's pattern is taken apart and put together, with the one rounding argument.
 pub mod packing;

@@ -30,7 +30,7 @@ sqrt-requires c κs = search needs
 
 loop-holds : tie.Need-loop-holds Inv-loop μ-loop
 unfolding timeAt
-loop-holds c = (search needs, refl, c .sqrt .ensures, refl, fill-first _ (c .before .before .before .before .before .args .out .now) _ (search needs) refl, simp length-set (search needs))
+loop-holds c = (search needs, refl, c .sqrt .ensures .is, refl, fill-first _ (c .before .before .before .before .before .args .out .now) _ (search needs) refl, simp length-set (search needs))
 
 add-loop : tie.Need-add-loop Inv-loop μ-loop
 add-loop c = search needs
@@ -65,8 +65,8 @@ loop-less c = search needs
 loop-again : tie.Need-loop-again Inv-loop μ-loop
 loop-again c =
     let i = c .before .before .before .before .loop .inv in
-    let e = rw (← c .leg .ensures) at (time-turn _ _ _ _ _ _ _ (i .1) (i .2) (c .before .sqrt2 .ensures)) in
-    (search needs, e, c .before .sqrt2 .ensures, simp length-set (simp length-set at (i .3)), fill-turn _ _ _ _ _ (omega arith) (i .4) e, simp length-set (i .5))
+    let e = rw (← c .leg .ensures) at (time-turn _ _ _ _ _ _ _ (i .1) (i .2) (c .before .sqrt2 .ensures .is)) in
+    (search needs, e, c .before .sqrt2 .ensures .is, simp length-set (simp length-set at (i .3)), fill-turn _ _ _ _ _ (omega arith) (i .4) e, simp length-set (i .5))
 
 same-length : tie.Need-same-length Inv-loop μ-loop
 same-length c = simp length-set at (c .before .loop .inv .3)

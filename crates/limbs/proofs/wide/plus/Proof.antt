@@ -2,7 +2,7 @@ use mathlib.Core.Path.{ap, _∙_}
 use Prim.Native.Nat.{ℕ, _+_, _%_, _^_}
 use native.Mathlib.Omega.{arith}
 use borrow.Author.Needs.{needs}
-use Rattle.limbs.proofs.Halves.{carried, not-carried}
+use Rattle.limbs.proofs.HalfWords.{carried, not-carried}
 use Rattle.limbs.proofs.wide.plus.Statement.{statement}
 use Rattle.limbs.proofs.wide.plus.Tie as tie
 

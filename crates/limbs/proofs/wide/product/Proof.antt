@@ -1,6 +1,6 @@
 use native.Mathlib.Omega.{arith}
 use borrow.Author.Needs.{needs}
-use Rattle.limbs.proofs.Halves.{halves-fit, sums-fit, high-is, low-is}
+use Rattle.limbs.proofs.HalfWords.{halves-fit, sums-fit, high-is, low-is}
 use Rattle.limbs.proofs.wide.product.Statement.{statement}
 use Rattle.limbs.proofs.wide.product.Tie as tie
 

@@ -1,4 +1,5 @@
 use borrow.Author.Needs.{needs}
+use Rattle.number.proofs.Reading.{reads-back}
 use Rattle.malikoza.proofs.leaves.malikoza_fma.Statement.{statement}
 use Rattle.malikoza.proofs.leaves.malikoza_fma.Tie as tie
 
@@ -19,13 +20,12 @@ pattern-of-requires c κs = search needs
 
 returns : tie.Need-returns
 returns c =
-    simp (
-      ← c .pattern-of .ensures,
-      ← c .before .fma .ensures,
-      ← c .before .before .double-of3 .ensures,
-      ← c .before .before .before .double-of2 .ensures,
-      ← c .before .before .before .before .double-of .ensures,
-    )
+    let v = c .before .fma in
+    let p = c .pattern-of in
+    let z = c .before .before .double-of3 .ensures in
+    let y = c .before .before .before .double-of2 .ensures in
+    let x = c .before .before .before .before .double-of .ensures in
+    (simp (← p .ensures, ← v .ensures .is, ← z, ← y, ← x), rw (reads-back (v .result) (p .result) (v .ok) (p .ensures), ← z, ← y, ← x) (v .ensures))
 
 pub malikoza-fma-spec : {M : Type 1} → statement M
 malikoza-fma-spec =

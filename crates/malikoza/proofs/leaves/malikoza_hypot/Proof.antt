@@ -1,4 +1,5 @@
 use borrow.Author.Needs.{needs}
+use Rattle.number.proofs.Reading.{reads-back}
 use Rattle.malikoza.proofs.leaves.malikoza_hypot.Statement.{statement}
 use Rattle.malikoza.proofs.leaves.malikoza_hypot.Tie as tie
 
@@ -16,12 +17,11 @@ pattern-of-requires c κs = search needs
 
 returns : tie.Need-returns
 returns c =
-    simp (
-      ← c .pattern-of .ensures,
-      ← c .before .hypot .ensures,
-      ← c .before .before .double-of2 .ensures,
-      ← c .before .before .before .double-of .ensures,
-    )
+    let v = c .before .hypot in
+    let p = c .pattern-of in
+    let y = c .before .before .double-of2 .ensures in
+    let x = c .before .before .before .double-of .ensures in
+    (simp (← p .ensures, ← v .ensures .is, ← y, ← x), rw (reads-back (v .result) (p .result) (v .ok) (p .ensures), ← y, ← x) (v .ensures))
 
 pub malikoza-hypot-spec : {M : Type 1} → statement M
 malikoza-hypot-spec =

@@ -1,4 +1,5 @@
 use borrow.Author.Needs.{needs}
+use Rattle.number.proofs.Reading.{reads-back}
 use Rattle.malikoza.proofs.leaves.malikoza_sqrt.Statement.{statement}
 use Rattle.malikoza.proofs.leaves.malikoza_sqrt.Tie as tie
 
@@ -13,11 +14,10 @@ pattern-of-requires c κs = search needs
 
 returns : tie.Need-returns
 returns c =
-    simp (
-      ← c .pattern-of .ensures,
-      ← c .before .sqrt .ensures,
-      ← c .before .before .double-of .ensures,
-    )
+    let v = c .before .sqrt in
+    let p = c .pattern-of in
+    let x = c .before .before .double-of .ensures in
+    (simp (← p .ensures, ← v .ensures .is, ← x), rw (reads-back (v .result) (p .result) (v .ok) (p .ensures), ← x) (v .ensures))
 
 pub malikoza-sqrt-spec : {M : Type 1} → statement M
 malikoza-sqrt-spec =

@@ -21,8 +21,9 @@ returns-3 c = maximum-negative _ _ (c .before .before .if3 .taken) (sym (c .befo
 
 returns-4 : tie.Need-returns-4
 returns-4 c =
-    maximum-other binary64 _ _ (holds (c .before .before .before .before .before .good .0 .1)) (holds (c .before .before .before .before .before .good .1 .0 .1)) (c .before .before .if3 .taken)
-    (sym (c .before .negative .ensures) ∙ c .if4 .left)
+    let equal = c .before .before in
+    let s = equal .before .before .before in
+    maximum-other binary64 _ _ (holds (s .good .0 .1)) (holds (s .good .1 .0 .1)) (equal .if3 .taken) (sym (c .before .negative .ensures) ∙ c .if4 .left)
 
 other-requires : tie.Need-other-requires
 other-requires c κs = search needs

@@ -3,7 +3,7 @@ use mathlib.Core.Bool.{true}
 use Prim.Native.Nat.{_+_, _-_, _^_, _<_}
 use lib.Ieee.{inf, binary64, neg, div, ofBits, toBits, nanBits}
 use Rattle.number.proofs.Order.{nought, holds, fails, lt-number, not-nan}
-use Rattle.number.proofs.Steps.{Down, down-above, down-zero, down-below, down-stays}
+use Rattle.number.proofs.Downward.{Down, down-above, down-zero, down-below, down-stays}
 use Rattle.number.proofs.step.next_down.Statement.{statement}
 use Rattle.number.proofs.step.next_down.Tie as tie
 use Rattle.number.proofs.step.next_down.Reads as reads

@@ -8,7 +8,7 @@ use lib.Ieee.{binary64, round}
 use Rattle.rounding.specs.Packing.{deep}
 use Rattle.rounding.proofs.Scaled.{no-nan}
 use Rattle.roots.proofs.Parted.{parted}
-use Rattle.roots.proofs.Cases.{code-zeros}
+use Rattle.roots.proofs.HypotCases.{code-zeros}
 use Rattle.roots.proofs.Lengths.{Both, lower, code-near, code-far}
 use Rattle.roots.proofs.hypot.finite_length.Statement.{statement}
 use Rattle.roots.proofs.hypot.finite_length.Tie as tie
@@ -26,6 +26,9 @@ at c =
       ordered = s .pre .0;
       below = s .pre .1;
     }
+
+abbrev split-at : tie.After-sum-root → tie.After-split
+split-at c = c .before .before .before .before .before
 
 returns : tie.Need-returns
 returns c = code-zeros (c .before .args .a) (c .before .args .b) (c .if1 .taken) (c .before .pre .0)
@@ -66,14 +69,14 @@ sum-root-requires c κs =
     (omega (arith, b .first .full (b .some)), omega (arith, b .first .under), omega (arith, b .second .under), omega (arith, c .before .before .if2 .left))
 
 add-rounded : tie.Need-add-rounded
-add-rounded c = record { fits = omega (arith, at (c .before .before .before .before .before .before) .first .short) }
+add-rounded c = record { fits = omega (arith, at (split-at (c .before)) .first .short) }
 
 rounded-requires : tie.Need-rounded-requires
 rounded-requires c κs = search needs
 
 returns-3 : tie.Need-returns-3
 returns-3 c =
-    let u = c .before .before .before .before .before .before .before in
+    let u = split-at (c .before .before) in
     let s = u .before .before in
     let r = u .split .result in
     c .rounded .ensures

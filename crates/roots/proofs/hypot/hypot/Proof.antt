@@ -5,7 +5,8 @@ use borrow.Author.Needs.{needs}
 use lib.Ieee.{binary64, ofBits}
 use Rattle.number.proofs.Order.{holds}
 use Rattle.roots.specs.Hypot.{hypotOf}
-use Rattle.roots.proofs.Cases.{code-unsigned, sorted-in, code-sorted}
+use Rattle.roots.proofs.NearestRoot.{spanned}
+use Rattle.roots.proofs.HypotCases.{code-unsigned, sorted-in, code-sorted}
 use Rattle.roots.proofs.hypot.hypot.Statement.{statement}
 use Rattle.roots.proofs.hypot.hypot.Tie as tie
 
@@ -31,10 +32,12 @@ returns c =
     let q = c .before .before .pattern-of2 in
     let s = c .before .in-order in
     let t = c .before .before .before .before in
+    spanned binary64 _ _ _ (
     c .ordered .ensures
     ∙ code-sorted (p .result % 2 ^ 63) (q .result % 2 ^ 63) (s .result .larger) (s .result .smaller) (s .ensures)
     ∙ ap₂ (λ (a b : ℕ). hypotOf binary64 (ofBits binary64 (a % 2 ^ 63)) (ofBits binary64 (b % 2 ^ 63))) (p .ensures) (q .ensures)
     ∙ code-unsigned (t .args .x) (t .args .y) (holds (t .good .0 .1)) (holds (t .good .1 .0 .1))
+    )
 
 pub hypot-spec : {M : Type 1} → statement M
 hypot-spec =

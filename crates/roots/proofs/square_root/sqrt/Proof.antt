@@ -3,9 +3,10 @@ use lib.Dec.{T}
 use lib.Ieee.{binary64, fits, ofBits}
 use lib.Ieee.Bits.{ofBits-toBits}
 use Rattle.number.proofs.Order.{nought, holds, fails, lt-number, not-nan}
-use Rattle.number.proofs.Steps.{down-above}
+use Rattle.number.proofs.Downward.{down-above}
 use Rattle.number.proofs.Reading.{zero-by-zero}
 use Rattle.roots.specs.Root.{sqrtOf}
+use Rattle.roots.proofs.NearestRoot.{rooted}
 use Rattle.roots.proofs.Sqrts.{only-infinity, below-zero, neither-side}
 use Rattle.roots.proofs.square_root.sqrt.Statement.{statement}
 use Rattle.roots.proofs.square_root.sqrt.Tie as tie
@@ -27,21 +28,21 @@ positive-root-requires c κs =
 returns : tie.Need-returns
 returns c =
     let s = c .before .before .before in
-    c .positive-root .ensures ∙ ap (sqrtOf binary64) (ofBits-toBits binary64 (s .args .x) (held s))
+    rooted binary64 _ _ (c .positive-root .ensures ∙ ap (sqrtOf binary64) (ofBits-toBits binary64 (s .args .x) (held s)))
 
 returns-2 : tie.Need-returns-2
 unfolding ofBits
 returns-2 c =
     let s = c .before .before in
-    only-infinity binary64 (s .args .x) (held s) (holds (c .before .if1 .taken)) (c .if2 .left)
+    rooted binary64 _ _ (only-infinity binary64 (s .args .x) (held s) (holds (c .before .if1 .taken)) (c .if2 .left))
 
 returns-3 : tie.Need-returns-3
 unfolding ofBits
-returns-3 c = zero-by-zero ∙ below-zero binary64 (c .before .before .args .x) (holds (c .if3 .taken))
+returns-3 c = rooted binary64 _ _ (zero-by-zero ∙ below-zero binary64 (c .before .before .args .x) (holds (c .if3 .taken)))
 
 returns-4 : tie.Need-returns-4
 unfolding ofBits
-returns-4 c = neither-side binary64 (c .before .before .args .x) (fails (c .before .if1 .left)) (fails (c .if3 .left))
+returns-4 c = rooted binary64 _ _ (neither-side binary64 (c .before .before .args .x) (fails (c .before .if1 .left)) (fails (c .if3 .left)))
 
 pub sqrt-spec : {M : Type 1} → statement M
 sqrt-spec =

@@ -10,7 +10,7 @@ fma-requires c κs = search needs
 
 returns : tie.Need-returns
 unfolding inverse2order ofBits
-returns c = rw (c .fma .ensures)
+returns c = rw (c .fma .ensures .is)
 
 pub inverse-2order-spec : {M : Type 1} → statement M
 inverse-2order-spec = tie.close (tie.spec fma-requires returns)

@@ -58,7 +58,7 @@ shared-slice-read-t29 c = search needs
 
 returns : tie.Need-returns
 unfolding pieceAt c1At
-returns c = rw (← c .before .before .before .before .sqrt .ensures)
+returns c = rw (← c .before .before .before .before .sqrt .ensures .is)
 
 pub piece-at-spec : {M : Type 1} → statement M
 piece-at-spec =
