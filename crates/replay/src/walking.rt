@@ -1,7 +1,7 @@
 // From case to case. A case begins with its length in bytes and its entry's number; a leaf's has 6 numbers, any other has 22, the lists and the output.
-use crate::comparing::agrees;
-use crate::reading::within;
-use crate::reading::word;
+use crate::comparing::is_as_recorded;
+use calls::words::within;
+use calls::words::word;
 use crate::telling;
 ghost use Prim.Native.Nat.{_≤_};
 ghost use lib.ListN.{length};
@@ -41,7 +41,7 @@ fn is_case(case: &[u8]) -> bool {
 fn count(case: &[u8], tally: &mut [u64; 26]) {
     let entry = within(word(case, 1), 12);
     tally[entry] = std::num::wrapping_add_u64(tally[entry], 1);
-    if !agrees(case) {
+    if !is_as_recorded(case) {
         tally[entry + 13] = std::num::wrapping_add_u64(tally[entry + 13], 1);
     }
 }
