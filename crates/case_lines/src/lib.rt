@@ -11,9 +11,9 @@ use libc::STDOUT_FILENO;
 
 // The lines are those of the standard input. For each case its name is written and whether the library answers what the line says; then how many there were.
 pub fn run() {
-    let mut text = [10; 65536];
-    io::read_full(STDIN_FILENO, &mut text);
-    let cases = table::run(&text);
+    let mut text = io::large_buffer();
+    let n = io::read_full(STDIN_FILENO, &mut text);
+    let cases = table::run(&text[..n]);
     io::print_decimal(STDOUT_FILENO, cases);
     io::write_all(STDOUT_FILENO, b" cases\n");
 }

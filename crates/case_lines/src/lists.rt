@@ -71,8 +71,8 @@ fn bytes(doubles: u64, more: u64) -> usize {
 }
 
 // A list's length in bytes.
-pub(crate) fn length(line: &[u8], list: u64, usual: u64) -> usize {
-    let mut b = [0; 16];
+pub(crate) fn bytes_of(line: &[u8], list: u64, usual: u64) -> usize {
+    let mut b = io::buffer();
     put(&mut b, 0, usual);
     apply(&mut b, list, line);
     bytes(word(&b, 0), word(&b, 1))

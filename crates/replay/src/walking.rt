@@ -1,8 +1,8 @@
 // From case to case. A case begins with its length in bytes and its entry's number; a leaf's has 6 numbers, any other has 22, the lists and the output.
 use crate::comparing::is_as_recorded;
+use crate::telling;
 use calls::words::within;
 use calls::words::word;
-use crate::telling;
 ghost use Prim.Native.Nat.{_≤_};
 ghost use lib.ListN.{length};
 
