@@ -1,9 +1,9 @@
 // The entries, called on a case.
-use crate::words::within;
-use crate::words::word;
 use malikoza::leaves;
 use malikoza::recover::malikoza_recover;
 use malikoza::stations;
+use words::bytes::within;
+use words::bytes::word;
 
 // What a call returns, and the four lent numbers after it.
 pub(crate) struct Told {

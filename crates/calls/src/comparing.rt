@@ -1,8 +1,8 @@
 // Whether a call leaves behind what it must: its number and the lent numbers; and what the whole output is compared with.
 use crate::calling;
 use crate::calling::Told;
-use crate::words::low_byte;
-use crate::words::word;
+use words::bytes::low_byte;
+use words::bytes::word;
 
 // What the output holds before a call: something else at each place, so that bytes moved within it are seen as well.
 pub fn mark(out: &mut [u8]) {

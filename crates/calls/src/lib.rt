@@ -4,4 +4,3 @@
 // 5 maximum, 6 absolute, 7 whole part, 8 recovery, 9 a to b, 10 s to t, 11 t to s for a list, 12 for a grid. The numbers 2 to 11 are those that it is passed.
 pub mod calling;
 pub mod comparing;
-pub mod words;

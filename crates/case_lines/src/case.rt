@@ -1,15 +1,16 @@
 // One case: the usual call of an entry with the line's changes, and whether all that it returns and leaves is as the line says.
 use crate::letters;
-use crate::lists::apply;
-use crate::lists::bytes_of;
-use crate::text::between;
 use crate::usual::prepare;
 use calls::comparing::agrees;
 use calls::comparing::mark;
 use calls::comparing::same;
-use calls::words::put;
-use calls::words::within;
-use calls::words::word;
+use words::bytes::put;
+use words::bytes::within;
+use words::bytes::word;
+use words::lists::HEAD;
+use words::lists::apply;
+use words::lists::bytes_of;
+use words::text::between;
 ghost use mathlib.Core.Path.{_≡_};
 ghost use lib.ListN.{length};
 
@@ -154,7 +155,7 @@ fn built(case: &mut [u8], head: &[u8], line: &[u8]) -> bool {
 
 pub(crate) fn holds(line: &[u8]) -> bool {
     let mut head = io::buffer();
-    apply(&mut head, letters::HEAD, line);
+    apply(&mut head, HEAD, line);
     let mut case = sheet();
     built(&mut case, &head, line)
 }

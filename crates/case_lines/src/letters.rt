@@ -1,7 +1,5 @@
-// The letters of a line: each begins some numbers. The line itself begins with the entry, what it returns, and how many doubles the lists of rows, stations,
-// speeds and times have.
-pub(crate) const HEAD: u64 = 0;
-
+// The letters of a line: each begins the numbers of its list. Before the first stand the entry, what it returns, and how many doubles the lists of rows,
+// stations, speeds and times have.
 // The numbers that the entry is passed; recovery's have a letter of their own.
 pub(crate) const PASSED: u64 = b'p' as u64;
 

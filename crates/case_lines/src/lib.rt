@@ -1,9 +1,7 @@
 // Cases as lines of text: each is read, called and compared, and told by its name.
 mod case;
 mod letters;
-mod lists;
 mod table;
-mod text;
 mod usual;
 
 use libc::STDIN_FILENO;

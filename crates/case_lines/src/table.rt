@@ -1,10 +1,10 @@
 // The cases: a line for each, its name and then what src/letters.rt says. A line that does not begin with a small letter is a remark.
 use crate::case::holds;
-use crate::text;
-use crate::text::between;
-use crate::text::first;
-use crate::text::run_end;
 use libc::STDOUT_FILENO;
+use words::text;
+use words::text::between;
+use words::text::first;
+use words::text::run_end;
 
 fn tell(name: &[u8], same: bool) {
     io::write_all(STDOUT_FILENO, name);

@@ -1,8 +1,8 @@
 // Whether a call leaves behind what was recorded: its number, the lent numbers, and the whole output, so that what lies past the written front is held too.
 use calls::comparing::agrees;
 use calls::comparing::same;
-use calls::words::within;
-use calls::words::word;
+use words::bytes::within;
+use words::bytes::word;
 
 fn leaves(case: &[u8], told: &[u8], expected: &[u8], out: &mut [u8]) -> bool {
     if agrees(case, told, out) {

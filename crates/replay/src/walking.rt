@@ -1,8 +1,8 @@
 // From case to case. A case begins with its length in bytes and its entry's number; a leaf's has 6 numbers, any other has 22, the lists and the output.
 use crate::comparing::is_as_recorded;
 use crate::telling;
-use calls::words::within;
-use calls::words::word;
+use words::bytes::within;
+use words::bytes::word;
 ghost use Prim.Native.Nat.{_≤_};
 ghost use lib.ListN.{length};
 
@@ -73,17 +73,6 @@ fn walked(file: &[u8], tally: &mut [u64; 26]) -> usize {
     at
 }
 
-// How many cases there were.
-fn total(tally: &[u64; 26]) -> u64 {
-    let mut sum = 0;
-    let mut i = 0;
-    while i < 13 {
-        sum = std::num::wrapping_add_u64(sum, tally[i]);
-        i += 1;
-    }
-    sum
-}
-
 // The file begins with the letters "malikoza" and the number of its cases.
 pub(crate) fn replay(file: &[u8]) {
     let mut tally = [0u64; 26];
@@ -96,7 +85,7 @@ pub(crate) fn replay(file: &[u8]) {
         telling::malformed(at);
         return;
     }
-    if total(&tally) != word(file, 1) {
+    if telling::total(&tally, 0) != word(file, 1) {
         telling::malformed(8);
         return;
     }

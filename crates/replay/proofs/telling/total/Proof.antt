@@ -1,17 +1,20 @@
 use Prim.Native.Nat.{_≤_, _-_}
 use native.Mathlib.Omega.{arith}
 use borrow.Author.Needs.{needs}
-use Rattle.replay.proofs.walking.total.Statement.{statement}
-use Rattle.replay.proofs.walking.total.Tie as tie
+use Rattle.replay.proofs.telling.total.Statement.{statement}
+use Rattle.replay.proofs.telling.total.Tie as tie
 
 abbrev Inv-loop : tie.InvT-loop
-Inv-loop tally sum₀ i₀ sum i = i ≤ 13
+Inv-loop tally from sum₀ i₀ sum i = i ≤ 13
 
 abbrev μ-loop : tie.MeasureT-loop
-μ-loop tally sum₀ i₀ sum i = 13 - i
+μ-loop tally from sum₀ i₀ sum i = 13 - i
 
 loop-holds : tie.Need-loop-holds Inv-loop μ-loop
 loop-holds c = omega arith
+
+add-wrapping-add-u64 : tie.Need-add-wrapping-add-u64 Inv-loop μ-loop
+add-wrapping-add-u64 c = omega arith
 
 mul-wrapping-add-u64 : tie.Need-mul-wrapping-add-u64 Inv-loop μ-loop
 mul-wrapping-add-u64 c = omega arith
@@ -41,6 +44,7 @@ total-spec =
     Inv-loop
     μ-loop
     loop-holds
+    add-wrapping-add-u64
     mul-wrapping-add-u64
     element-copy-out-wrapping-add-u64
     wrapping-add-u64-requires

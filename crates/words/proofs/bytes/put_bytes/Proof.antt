@@ -3,8 +3,8 @@ use mathlib.Core.Path.{_≡_}
 use native.Mathlib.Omega.{arith}
 use lib.ListN.{length, length-set}
 use borrow.Author.Needs.{needs}
-use Rattle.calls.proofs.words.put_bytes.Statement.{statement}
-use Rattle.calls.proofs.words.put_bytes.Tie as tie
+use Rattle.words.proofs.bytes.put_bytes.Statement.{statement}
+use Rattle.words.proofs.bytes.put_bytes.Tie as tie
 
 abbrev Inv-loop : tie.InvT-loop
 Inv-loop b₀ from end n rest₀ i₀ b rest i = length b ≡ length b₀

@@ -3,8 +3,8 @@ use mathlib.Core.Path.{_≡_}
 use native.Mathlib.Omega.{arith}
 use lib.ListN.{length}
 use borrow.Author.Needs.{needs}
-use Rattle.case_lines.proofs.lists.apply.Statement.{statement}
-use Rattle.case_lines.proofs.lists.apply.Tie as tie
+use Rattle.words.proofs.lists.apply.Statement.{statement}
+use Rattle.words.proofs.lists.apply.Tie as tie
 
 abbrev Inv-loop : tie.InvT-loop
 Inv-loop b₀ list line spot₀ i₀ b spot i = length b ≡ length b₀

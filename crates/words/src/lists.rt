@@ -1,10 +1,13 @@
-// Numbers and lists as bytes: what a line says of them.
-use crate::letters;
+// Lists of numbers as bytes, and what a line of text says of them: letters, each with the numbers of its list from the first place on, or from the place
+// that @ names.
+use crate::bytes::put;
+use crate::bytes::word;
 use crate::text;
 use crate::text::first;
 use crate::text::run_end;
-use calls::words::put;
-use calls::words::word;
+
+// What stands before the first letter.
+pub const HEAD: u64 = 0;
 
 // The letter that was read last, and the place of the next number.
 struct Spot {
@@ -43,9 +46,9 @@ fn after(w: &[u8], spot: Spot) -> Spot {
     }
 }
 
-pub(crate) fn apply(b: &mut [u8], list: u64, line: &[u8]) {
+pub fn apply(b: &mut [u8], list: u64, line: &[u8]) {
     let mut spot = Spot {
-        letter: letters::HEAD,
+        letter: HEAD,
         place: 0,
     };
     let mut i = run_end(line, 0, text::SPACE);
@@ -71,8 +74,8 @@ fn bytes(doubles: u64, more: u64) -> usize {
 }
 
 // A list's length in bytes.
-pub(crate) fn bytes_of(line: &[u8], list: u64, usual: u64) -> usize {
-    let mut b = io::buffer();
+pub fn bytes_of(line: &[u8], list: u64, usual: u64) -> usize {
+    let mut b = [0; 16];
     put(&mut b, 0, usual);
     apply(&mut b, list, line);
     bytes(word(&b, 0), word(&b, 1))

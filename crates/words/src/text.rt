@@ -3,11 +3,11 @@ use number::pattern::pattern_of;
 ghost use Prim.Native.Nat.{_≤_};
 
 // What a run is made of: all up to the line's end, spaces, or a word's bytes.
-pub(crate) const LINE: u64 = 0;
+pub const LINE: u64 = 0;
 
-pub(crate) const SPACE: u64 = 1;
+pub const SPACE: u64 = 1;
 
-pub(crate) const WORD: u64 = 2;
+pub const WORD: u64 = 2;
 
 fn belongs(c: u8, run: u64) -> bool {
     match run {
@@ -17,7 +17,7 @@ fn belongs(c: u8, run: u64) -> bool {
     }
 }
 
-pub(crate) fn run_end(text: &[u8], from: usize, run: u64) -> usize
+pub fn run_end(text: &[u8], from: usize, run: u64) -> usize
     ensures { λ r. ⌜ from ≤ r ⌝ }
 {
     let mut i = from;
@@ -31,7 +31,7 @@ pub(crate) fn run_end(text: &[u8], from: usize, run: u64) -> usize
     i
 }
 
-pub(crate) fn between(text: &[u8], i: usize, e: usize) -> &[u8] {
+pub fn between(text: &[u8], i: usize, e: usize) -> &[u8] {
     if i <= e {
         if e <= text.len() {
             return &text[i..e];
@@ -41,7 +41,7 @@ pub(crate) fn between(text: &[u8], i: usize, e: usize) -> &[u8] {
 }
 
 // A word's first byte.
-pub(crate) fn first(word: &[u8]) -> u8 {
+pub fn first(word: &[u8]) -> u8 {
     if 0 < word.len() { word[0] } else { b' ' }
 }
 

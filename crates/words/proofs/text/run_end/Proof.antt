@@ -2,8 +2,8 @@ use Prim.Native.Nat.{_≤_, _-_}
 use native.Mathlib.Omega.{arith}
 use lib.ListN.{length}
 use borrow.Author.Needs.{needs}
-use Rattle.case_lines.proofs.text.run_end.Statement.{statement}
-use Rattle.case_lines.proofs.text.run_end.Tie as tie
+use Rattle.words.proofs.text.run_end.Statement.{statement}
+use Rattle.words.proofs.text.run_end.Tie as tie
 
 abbrev Inv-loop : tie.InvT-loop
 Inv-loop text from run i₀ i = from ≤ i
