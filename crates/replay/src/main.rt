@@ -2,9 +2,7 @@
 // entry how many cases there were and how many differ, and last the same of all.
 //
 // `host/run record` makes the file: the eight letters "malikoza", the number of cases, and the cases. A number is eight bytes, low byte first.
-mod calling;
 mod comparing;
-mod reading;
 mod telling;
 mod walking;
 

@@ -1,7 +1,8 @@
 // What is printed.
 use libc::STDOUT_FILENO;
+ghost use Prim.Native.Nat.{_≤_};
 
-fn name(entry: usize) -> bool {
+fn leaf_name(entry: usize) -> bool {
     match entry {
         0 => io::write_all(STDOUT_FILENO, b"malikoza_sqrt: "),
         1 => io::write_all(STDOUT_FILENO, b"malikoza_fma: "),
@@ -10,12 +11,18 @@ fn name(entry: usize) -> bool {
         4 => io::write_all(STDOUT_FILENO, b"malikoza_minimum: "),
         5 => io::write_all(STDOUT_FILENO, b"malikoza_maximum: "),
         6 => io::write_all(STDOUT_FILENO, b"malikoza_absolute: "),
-        7 => io::write_all(STDOUT_FILENO, b"malikoza_whole_part: "),
+        _ => io::write_all(STDOUT_FILENO, b"malikoza_whole_part: "),
+    }
+}
+
+fn name(entry: usize) -> bool {
+    match entry {
         8 => io::write_all(STDOUT_FILENO, b"malikoza_recover: "),
         9 => io::write_all(STDOUT_FILENO, b"malikoza_a_to_b: "),
         10 => io::write_all(STDOUT_FILENO, b"malikoza_s_to_t: "),
         11 => io::write_all(STDOUT_FILENO, b"malikoza_t_to_s_list: "),
-        _ => io::write_all(STDOUT_FILENO, b"malikoza_t_to_s_grid: "),
+        12 => io::write_all(STDOUT_FILENO, b"malikoza_t_to_s_grid: "),
+        _ => leaf_name(entry),
     }
 }
 
@@ -26,19 +33,27 @@ fn counts(cases: u64, differ: u64) {
     io::write_all(STDOUT_FILENO, b" differ\n");
 }
 
-// A tally has 13 numbers of cases, by entry, and then as many of those that differ.
+// A tally has 13 numbers of cases, by entry, and then as many of those that differ: the sum of either.
+pub(crate) fn total(tally: &[u64; 26], from: usize) -> u64
+    requires { ⌜ from ≤ 13 ⌝ }
+{
+    let mut sum = 0;
+    let mut i = 0;
+    while i < 13 {
+        sum = std::num::wrapping_add_u64(sum, tally[from + i]);
+        i += 1;
+    }
+    sum
+}
+
 pub(crate) fn tell(tally: &[u64; 26]) {
-    let mut cases = 0;
-    let mut differ = 0;
     let mut i = 0;
     while i < 13 {
         name(i);
         counts(tally[i], tally[i + 13]);
-        cases = std::num::wrapping_add_u64(cases, tally[i]);
-        differ = std::num::wrapping_add_u64(differ, tally[i + 13]);
         i += 1;
     }
-    counts(cases, differ);
+    counts(total(tally, 0), total(tally, 13));
 }
 
 // Where a case, or the file as a whole, does not keep its form.

@@ -1,8 +1,8 @@
 // From case to case. A case begins with its length in bytes and its entry's number; a leaf's has 6 numbers, any other has 22, the lists and the output.
-use crate::comparing::agrees;
-use crate::reading::within;
-use crate::reading::word;
+use crate::comparing::is_as_recorded;
 use crate::telling;
+use words::bytes::within;
+use words::bytes::word;
 ghost use Prim.Native.Nat.{_≤_};
 ghost use lib.ListN.{length};
 
@@ -41,7 +41,7 @@ fn is_case(case: &[u8]) -> bool {
 fn count(case: &[u8], tally: &mut [u64; 26]) {
     let entry = within(word(case, 1), 12);
     tally[entry] = std::num::wrapping_add_u64(tally[entry], 1);
-    if !agrees(case) {
+    if !is_as_recorded(case) {
         tally[entry + 13] = std::num::wrapping_add_u64(tally[entry + 13], 1);
     }
 }
@@ -73,17 +73,6 @@ fn walked(file: &[u8], tally: &mut [u64; 26]) -> usize {
     at
 }
 
-// How many cases there were.
-fn total(tally: &[u64; 26]) -> u64 {
-    let mut sum = 0;
-    let mut i = 0;
-    while i < 13 {
-        sum = std::num::wrapping_add_u64(sum, tally[i]);
-        i += 1;
-    }
-    sum
-}
-
 // The file begins with the letters "malikoza" and the number of its cases.
 pub(crate) fn replay(file: &[u8]) {
     let mut tally = [0u64; 26];
@@ -96,7 +85,7 @@ pub(crate) fn replay(file: &[u8]) {
         telling::malformed(at);
         return;
     }
-    if total(&tally) != word(file, 1) {
+    if telling::total(&tally, 0) != word(file, 1) {
         telling::malformed(8);
         return;
     }

@@ -5,10 +5,10 @@ use Rattle.replay.proofs.telling.tell.Statement.{statement}
 use Rattle.replay.proofs.telling.tell.Tie as tie
 
 abbrev Inv-loop : tie.InvT-loop
-Inv-loop tally cases₀ differ₀ i₀ cases differ i = i ≤ 13
+Inv-loop tally i₀ i = i ≤ 13
 
 abbrev μ-loop : tie.MeasureT-loop
-μ-loop tally cases₀ differ₀ i₀ cases differ i = 13 - i
+μ-loop tally i₀ i = 13 - i
 
 loop-holds : tie.Need-loop-holds Inv-loop μ-loop
 loop-holds c = omega arith
@@ -34,27 +34,6 @@ element-copy-out-counts-2 c = omega arith
 counts-requires : tie.Need-counts-requires Inv-loop μ-loop
 counts-requires c κs = search needs
 
-mul-wrapping-add-u64 : tie.Need-mul-wrapping-add-u64 Inv-loop μ-loop
-mul-wrapping-add-u64 c = omega arith
-
-element-copy-out-wrapping-add-u64 : tie.Need-element-copy-out-wrapping-add-u64 Inv-loop μ-loop
-element-copy-out-wrapping-add-u64 c = omega arith
-
-wrapping-add-u64-requires : tie.Need-wrapping-add-u64-requires Inv-loop μ-loop
-wrapping-add-u64-requires c κs = search needs
-
-add-wrapping-add-u64 : tie.Need-add-wrapping-add-u64 Inv-loop μ-loop
-add-wrapping-add-u64 c = omega arith
-
-mul-wrapping-add-u64-2 : tie.Need-mul-wrapping-add-u64-2 Inv-loop μ-loop
-mul-wrapping-add-u64-2 c = omega arith
-
-element-copy-out-wrapping-add-u64-2 : tie.Need-element-copy-out-wrapping-add-u64-2 Inv-loop μ-loop
-element-copy-out-wrapping-add-u64-2 c = omega arith
-
-wrapping-add-u64-requires-2 : tie.Need-wrapping-add-u64-requires-2 Inv-loop μ-loop
-wrapping-add-u64-requires-2 c κs = search needs
-
 add-i : tie.Need-add-i Inv-loop μ-loop
 add-i c = omega arith
 
@@ -63,6 +42,12 @@ loop-less c = omega arith
 
 loop-again : tie.Need-loop-again Inv-loop μ-loop
 loop-again c = omega arith
+
+total-requires : tie.Need-total-requires Inv-loop μ-loop
+total-requires c κs = search needs
+
+total-requires-2 : tie.Need-total-requires-2 Inv-loop μ-loop
+total-requires-2 c κs = search needs
 
 counts-requires-2 : tie.Need-counts-requires-2 Inv-loop μ-loop
 counts-requires-2 c κs = search needs
@@ -84,15 +69,10 @@ tell-spec =
     mul-counts-2
     element-copy-out-counts-2
     counts-requires
-    mul-wrapping-add-u64
-    element-copy-out-wrapping-add-u64
-    wrapping-add-u64-requires
-    add-wrapping-add-u64
-    mul-wrapping-add-u64-2
-    element-copy-out-wrapping-add-u64-2
-    wrapping-add-u64-requires-2
     add-i
     loop-less
     loop-again
+    total-requires
+    total-requires-2
     counts-requires-2
     returns)

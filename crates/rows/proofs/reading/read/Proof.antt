@@ -21,13 +21,13 @@ returns : tie.Need-returns
 returns c =
     let b = c .before .before .before in
     let s = b .before .before in
-    unmeetable-read (s .args .tol) (s .args .a) (asked s) _ (b .before .hypot .ensures) (sym (b .both-finite .ensures) ∙ c .before .before .if1 .taken) (c .before .if2 .taken) (c .if3 .taken)
+    unmeetable-read (s .args .tol) (s .args .a) (asked s) _ (b .before .hypot .ensures .is) (sym (b .both-finite .ensures) ∙ c .before .before .if1 .taken) (c .before .if2 .taken) (c .if3 .taken)
 
 returns-2 : tie.Need-returns-2
 returns-2 c =
     let b = c .before .before .before in
     let s = b .before .before in
-    silent-read (s .args .tol) (s .args .a) (asked s) _ (b .before .hypot .ensures) (sym (b .both-finite .ensures) ∙ c .before .before .if1 .taken) (c .before .if2 .taken) (c .if3 .left)
+    silent-read (s .args .tol) (s .args .a) (asked s) _ (b .before .hypot .ensures .is) (sym (b .both-finite .ensures) ∙ c .before .before .if1 .taken) (c .before .if2 .taken) (c .if3 .left)
 
 scale-requires : tie.Need-scale-requires
 scale-requires c κs = search needs
@@ -40,7 +40,7 @@ returns-3 c =
     let z = c .before .before .before in
     let b = z .before .before in
     let s = b .before .before in
-    block-read (s .args .tol) (s .args .a) (asked s) _ (b .before .hypot .ensures) (sym (b .both-finite .ensures) ∙ z .before .if1 .taken)
+    block-read (s .args .tol) (s .args .a) (asked s) _ (b .before .hypot .ensures .is) (sym (b .both-finite .ensures) ∙ z .before .if1 .taken)
     _ (ap (λ (y : Float). s .args .tol ⊗ y) (c .before .before .scale .ensures)) (z .if2 .left) (sym (c .before .both-finite2 .ensures) ∙ c .if4 .taken)
 
 returns-4 : tie.Need-returns-4
@@ -48,13 +48,13 @@ returns-4 c =
     let z = c .before .before .before in
     let b = z .before .before in
     let s = b .before .before in
-    scale-unfit (s .args .tol) (s .args .a) (asked s) _ (b .before .hypot .ensures) (sym (b .both-finite .ensures) ∙ z .before .if1 .taken)
+    scale-unfit (s .args .tol) (s .args .a) (asked s) _ (b .before .hypot .ensures .is) (sym (b .both-finite .ensures) ∙ z .before .if1 .taken)
     _ (ap (λ (y : Float). s .args .tol ⊗ y) (c .before .before .scale .ensures)) (z .if2 .left) (sym (c .before .both-finite2 .ensures) ∙ c .if4 .left)
 
 returns-5 : tie.Need-returns-5
 returns-5 c =
     let s = c .before .before .before in
-    numbers-unfit (s .args .tol) (s .args .a) (asked s) _ (c .before .before .hypot .ensures) (sym (c .before .both-finite .ensures) ∙ c .if1 .left)
+    numbers-unfit (s .args .tol) (s .args .a) (asked s) _ (c .before .before .hypot .ensures .is) (sym (c .before .both-finite .ensures) ∙ c .if1 .left)
 
 pub read-spec : {M : Type 1} → statement M
 read-spec =
