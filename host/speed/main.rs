@@ -1,9 +1,8 @@
 //! The library's speed beside the Rust original's, on the same inputs in one run.
 //!
 //! `host/run speed` prints one table: for each operation the instructions for each unit of work (a station, a sample, a row and candidate, a call) of the
-//! original, of the plain operation on slices of doubles (crate `plain`) and of the library's entry, which takes byte lists, the ratio of the entry to the
-//! original, the ratio of their times, and the entry's instructions for each unit at a quarter, half and the whole of the size, which must not grow. What a
-//! C call adds is what stands between plain and library.
+//! original and of the library's entry, which takes byte lists, the ratio of the entry to the original, the ratio of their times, and the entry's
+//! instructions for each unit at a quarter, half and the whole of the size, which must not grow.
 //!
 //! Instructions are counted by running this program under valgrind, or under the command that COUNTER names (on Arm: qemu-x86_64 with a plugin that counts and
 //! prints a line "instructions N"), each operation with one turn and with `TURNS` more: the difference is what the turns took. From a leaf's calls the loop around them is taken off.
@@ -73,11 +72,10 @@ fn time(work: &Work, side: Side) -> f64 {
 
 fn line(work: &Work) {
     let theirs = instructions(work, Side::Original, 1);
-    let plain = if work.has_plain() { format!("{:.1}", instructions(work, Side::Plain, 1)) } else { String::from("-") };
     let ours: Vec<f64> = SHARES.iter().map(|share| instructions(work, Side::Library, *share)).collect();
     let times = if std::env::var("COUNTER").is_ok() { String::from("-") } else { format!("{:.2}", time(work, Side::Library) / time(work, Side::Original)) };
     println!(
-        "{:<50} {theirs:>9.1} {plain:>9} {:>9.1} {:>6.2} {times:>6}   {:>9.1} {:>9.1} {:>9.1}",
+        "{:<50} {theirs:>9.1} {:>9.1} {:>6.2} {times:>6}   {:>9.1} {:>9.1} {:>9.1}",
         format!("{}, for each {}", work.name, work.unit),
         ours[2],
         ours[2] / theirs,
@@ -101,7 +99,7 @@ fn main() {
     if words.len() == 4 {
         return run(&words);
     }
-    println!("{:<50} {:>9} {:>9} {:>9} {:>6} {:>6}   library at a quarter, half, whole", "instructions", "original", "plain", "library", "ratio", "time");
+    println!("{:<50} {:>9} {:>9} {:>6} {:>6}   library at a quarter, half, whole", "instructions", "original", "library", "ratio", "time");
     for work in &Work::ALL {
         if words.is_empty() || words.iter().any(|word| work.name.contains(word.as_str())) {
             line(work);

@@ -1,4 +1,4 @@
-//! The operations that are measured: the original, the plain operations on slices of doubles, and the library's entries on byte lists.
+//! The operations that are measured: the original, and the library's entries on byte lists.
 
 use crate::inputs::{self, ROWS, SAMPLES, STATIONS};
 use crate::original::completed::{InterpolationMode, ReachSet2Options};
@@ -28,29 +28,9 @@ extern "C" {
     ) -> u64;
 }
 
-#[link(name = "plain", kind = "static")]
-extern "C" {
-    fn plain_recover(
-        a_prev: f64, prev_lower: f64, prev_upper: f64, prev_path_max: f64, curr_lower: f64, curr_upper: f64, curr_path_max: f64,
-        feas_tol: f64, a_cmp_abs_tol: f64, a_cmp_rel_tol: f64, rows: *const f64, rows_len: usize,
-        speed: *mut u64, worst_normalized: *mut u64, worst_raw: *mut u64, tried: *mut u64,
-    ) -> u64;
-    fn plain_a_to_b(s: *const f64, s_len: usize, a: *const f64, a_len: usize, out: *mut f64, out_len: usize) -> u64;
-    fn plain_s_to_t(s: *const f64, s_len: usize, a: *const f64, a_len: usize, t0: f64, out: *mut f64, out_len: usize) -> u64;
-    fn plain_t_to_s_list(
-        s: *const f64, s_len: usize, a: *const f64, a_len: usize, t: *const f64, t_len: usize, samples: *const f64, samples_len: usize,
-        out: *mut f64, out_len: usize, before: *mut u64, inside: *mut u64, past: *mut u64, written: *mut u64,
-    ) -> u64;
-    fn plain_t_to_s_grid(
-        s: *const f64, s_len: usize, a: *const f64, a_len: usize, t: *const f64, t_len: usize, t0: f64, dt: f64, with_final: u8,
-        out: *mut f64, out_len: usize, before: *mut u64, inside: *mut u64, past: *mut u64, written: *mut u64,
-    ) -> u64;
-}
-
 #[derive(Clone, Copy)]
 pub enum Side {
     Original,
-    Plain,
     Library,
 }
 
@@ -58,7 +38,6 @@ impl Side {
     pub fn name(self) -> &'static str {
         match self {
             Side::Original => "original",
-            Side::Plain => "plain",
             Side::Library => "library",
         }
     }
@@ -66,7 +45,6 @@ impl Side {
     pub fn named(name: &str) -> Side {
         match name {
             "original" => Side::Original,
-            "plain" => Side::Plain,
             _ => Side::Library,
         }
     }
@@ -102,11 +80,6 @@ impl Work {
         self.size / share * candidates
     }
 
-    /// A leaf takes patterns alone: no list is decoded, and there is no plain call beside it.
-    pub fn has_plain(&self) -> bool {
-        self.unit != "call"
-    }
-
     pub fn turn(&self, side: Side, share: u64) {
         (self.run)(side, (self.size / share) as usize);
     }
@@ -119,15 +92,6 @@ fn bytes(list: &[f64]) -> (*const u8, usize) {
 
 fn room(list: &mut [f64]) -> (*mut u8, usize) {
     (list.as_mut_ptr().cast(), std::mem::size_of_val(list))
-}
-
-/// The same as the plain operations take it.
-fn doubles(list: &[f64]) -> (*const f64, usize) {
-    (list.as_ptr(), list.len())
-}
-
-fn places(list: &mut [f64]) -> (*mut f64, usize) {
-    (list.as_mut_ptr(), list.len())
 }
 
 /// The inputs of the conversions, made once: stations, squared speeds, times, samples and room for the output.
@@ -160,14 +124,9 @@ fn with_given(stations: usize, samples: usize, work: impl FnOnce(&mut Given)) {
 fn a_to_b(side: Side, n: usize) {
     with_given(n, 1, |g| match side {
         Side::Original => drop(black_box(interpolation::a_to_b_topp2(&g.s, &g.a))),
-        Side::Plain => {
-            let ((s, s_len), (a, a_len), (out, out_len)) = (doubles(&g.s), doubles(&g.a), places(&mut g.out));
-            // SAFETY: each pointer stands with the length of what is behind it, in doubles or in bytes, here and below.
-            assert_eq!(unsafe { plain_a_to_b(s, s_len, a, a_len, out, out_len) }, 0);
-        }
         Side::Library => {
             let ((s, s_len), (a, a_len), (out, out_len)) = (bytes(&g.s), bytes(&g.a), room(&mut g.out));
-            // SAFETY: as above.
+            // SAFETY: each pointer stands with the length in bytes of what is behind it, here and below.
             assert_eq!(unsafe { malikoza_a_to_b(s, s_len, a, a_len, out, out_len) }, 0);
         }
     });
@@ -176,11 +135,6 @@ fn a_to_b(side: Side, n: usize) {
 fn s_to_t(side: Side, n: usize) {
     with_given(n, 1, |g| match side {
         Side::Original => drop(black_box(interpolation::s_to_t_topp2(&g.s, &g.a, 0.0))),
-        Side::Plain => {
-            let ((s, s_len), (a, a_len), (out, out_len)) = (doubles(&g.s), doubles(&g.a), places(&mut g.out));
-            // SAFETY: as above.
-            assert_eq!(unsafe { plain_s_to_t(s, s_len, a, a_len, 0.0, out, out_len) }, 0);
-        }
         Side::Library => {
             let ((s, s_len), (a, a_len), (out, out_len)) = (bytes(&g.s), bytes(&g.a), room(&mut g.out));
             // SAFETY: as above.
@@ -192,14 +146,6 @@ fn s_to_t(side: Side, n: usize) {
 fn list(side: Side, n: usize) {
     with_given(n * STATIONS / SAMPLES, n, |g| match side {
         Side::Original => drop(black_box(interpolation::t_to_s_topp2(&g.s, &g.a, &g.t, InterpolationMode::NonUniformTimeGrid(&g.samples)))),
-        Side::Plain => {
-            let ((s, s_len), (a, a_len), (t, t_len), (x, x_len)) = (doubles(&g.s), doubles(&g.a), doubles(&g.t), doubles(&g.samples));
-            let ((out, out_len), mut c) = (places(&mut g.out), [0; 4]);
-            let [before, inside, past, written] = &mut c;
-            // SAFETY: as above.
-            let number = unsafe { plain_t_to_s_list(s, s_len, a, a_len, t, t_len, x, x_len, out, out_len, before, inside, past, written) };
-            assert_eq!((number, c[3]), (0, n as u64));
-        }
         Side::Library => {
             let ((s, s_len), (a, a_len), (t, t_len), (x, x_len)) = (bytes(&g.s), bytes(&g.a), bytes(&g.t), bytes(&g.samples));
             let ((out, out_len), mut c) = (room(&mut g.out), [0; 4]);
@@ -216,14 +162,6 @@ fn grid(side: Side, n: usize) {
         let step = inputs::step(&g.t, n);
         match side {
             Side::Original => drop(black_box(interpolation::t_to_s_topp2(&g.s, &g.a, &g.t, InterpolationMode::UniformTimeGrid(0.0, step, true)))),
-            Side::Plain => {
-                let ((s, s_len), (a, a_len), (t, t_len)) = (doubles(&g.s), doubles(&g.a), doubles(&g.t));
-                let ((out, out_len), mut c) = (places(&mut g.out), [0; 4]);
-                let [before, inside, past, written] = &mut c;
-                // SAFETY: as above.
-                let number = unsafe { plain_t_to_s_grid(s, s_len, a, a_len, t, t_len, 0.0, step, 1, out, out_len, before, inside, past, written) };
-                assert_eq!((number, c[3]), (0, n as u64 + 1));
-            }
             Side::Library => {
                 let ((s, s_len), (a, a_len), (t, t_len)) = (bytes(&g.s), bytes(&g.a), bytes(&g.t));
                 let ((out, out_len), mut c) = (room(&mut g.out), [0; 4]);
@@ -244,14 +182,6 @@ fn recover(side: Side, rows: &[(f64, f64, f64)], flat: &[f64]) -> u64 {
         Side::Original => {
             black_box(topp2_ra::way_in(rows, 1.0, (0.0, 4.0), (0.0, 4.0), 9.0, 3.0, &NO_TOLERANCE)).expect("a speed");
             0
-        }
-        Side::Plain => {
-            let ((list, len), mut c) = (doubles(flat), [0; 4]);
-            let [speed, normalized, raw, tried] = &mut c;
-            // SAFETY: as above.
-            let number = unsafe { plain_recover(1.0, 0.0, 4.0, 9.0, 0.0, 4.0, 3.0, 0.0, 0.0, 0.0, list, len, speed, normalized, raw, tried) };
-            assert_eq!(number, 0);
-            c[3]
         }
         Side::Library => {
             let [zero, one, three, four, nine] = [0.0, 1.0, 3.0, 4.0, 9.0].map(f64::to_bits);
