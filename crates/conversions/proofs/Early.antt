@@ -7,13 +7,13 @@ use native.Mathlib.Omega.{arith}
 use borrow.Author.Tests.{lt-ltb, lt-leb}
 use lib.ListN.{length}
 use lib.Ieee.{Float}
+use Rattle.profile.specs.Profile.{lengthsNo}
 use Rattle.sampling.specs.Samples.{timedNo}
 use Rattle.sampling.specs.List.{samplesNo, listNo}
 use Rattle.sampling.specs.Grid.{gridNo}
 use Rattle.sampling.proofs.Walks.{timed}
 use Rattle.refusals.proofs.Outcomes.{or-stop}
 use Rattle.byte_lists.specs.Bytes.{doublesOf}
-use Rattle.conversions.specs.Stations.{lengthsNo}
 use Rattle.byte_lists.proofs.Fronts.{length-doubles}
 use Rattle.conversions.proofs.Replies.{lengths-stop}
 

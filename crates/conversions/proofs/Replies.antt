@@ -6,27 +6,24 @@ use mathlib.Core.Logic.{_⊎_, inl, inr, ⊎-elim}
 use mathlib.Core.List.{List, _++_}
 use native.Mathlib.Nat.{suc-ne-zero, min-eq-left, min-eq-right, min-le-right, le-min, zero-min}
 use native.Mathlib.Omega.{arith}
-use borrow.Author.Tests.{leb-true, leb-false, le-leb, eqb-true}
-use lib.Dec.{eqb, leb}
+use borrow.Author.Tests.{leb-true, leb-false, le-leb}
+use lib.Dec.{leb}
 use lib.ListN.{length, take, length-append, List·getD-append}
 use lib.Seq.{length-take-le}
-use lib.Ieee.{Float, nan, lt}
-use lib.Ieee.Scale.{finite}
+use lib.Ieee.{Float, nan}
 use Rattle.loops.specs.Upto.{filled, at}
 use Rattle.refusals.specs.Refusals.{unless, _or_, onlyIf}
-use Rattle.refusals.proofs.Chains.{only-done, only-kept, or-assoc, or-none, unless-none}
-use Rattle.loops.proofs.Counting.{and-left, and-right}
+use Rattle.refusals.proofs.Chains.{only-done, only-kept}
 use Rattle.loops.proofs.Filling.{fill-none, fill-same, filled-at, length-filled}
 use Rattle.refusals.specs.Outcome.{answered, Outcome}
 use Rattle.sampling.specs.Samples.{countsOf}
-use Rattle.loops.specs.Entries.{everyEntry, everyPair}
-use Rattle.interpolation.specs.Profile.{profileNo}
-use Rattle.refusals.proofs.Outcomes.{or-stop}
+use Rattle.profile.specs.Profile.{lengthsNo, profileNo}
+use Rattle.profile.proofs.Profiles.{lengths-stop as shape-stop}
 use Rattle.sampling.specs.declared.samples.Counts.{Counts}
 use Rattle.sampling.specs.declared.samples.Sampled.{Sampled}
 use Rattle.sampling.specs.declared.samples.Sampled.the-variants.{Done, Refused}
 use Rattle.byte_lists.specs.Bytes.{doublesOf, byteOf}
-use Rattle.conversions.specs.Stations.{Replied, Answered, entriesOf, lengthsNo}
+use Rattle.conversions.specs.Stations.{Replied, Answered, entriesOf}
 use Rattle.byte_lists.proofs.Fronts.{length-doubles}
 
 -- ---- the number of an answer
@@ -143,23 +140,6 @@ module _ {no : ℕ → ℕ} {entry : ℕ → Float} {n : ℕ} {aside front : Lis
           ∙ sym (only-kept (no (length out / 8)) _ _ (λ z. h (told w ∙ z)))
 
 -- ---- 11 and 12
-pub lengths-pass : (n m : ℕ) → lengthsNo n m ≡ 0 → (n ≤ 4096) × (m ≤ 4096)
-lengths-pass n m h =
-    let p = or-none _ _ h in
-    let few = leb-true n 4096 (and-right (leb 2 n) (leb n 4096) (unless-none _ 11 (omega arith) (p .0))) in
-    (few, omega (arith, eqb-true m n (unless-none _ 12 (omega arith) (p .1))))
-
-pub lengths-low : (n m : ℕ) → lengthsNo n m ≡ 0 → 2 ≤ n
-lengths-low n m h = leb-true 2 n (and-left (leb 2 n) (leb n 4096) (unless-none _ 11 (omega arith) (or-none _ _ h .0)))
-
-shape-stop : (s a : List Float) (number : ℕ) → number ≡ lengthsNo (length s) (length a) → (number ≡ 0 → ⊥) → number ≡ profileNo s a
-unfolding profileNo
-shape-stop s a number e h =
-    let few = unless (leb 2 (length s) && leb (length s) 4096) 11 in
-    let same = unless (eqb (length a) (length s)) 12 in
-    let entries = unless (everyEntry finite s) 13 or unless (everyEntry finite a) 14 or unless (everyPair lt s) 15 in
-    or-stop number (few or same) entries e h ∙ or-assoc few same entries
-
 pub lengths-stop : (s a : List ℕ) (number : ℕ) → number ≡ lengthsNo (length s / 8) (length a / 8) → (number ≡ 0 → ⊥) → number ≡ profileNo (doublesOf s) (doublesOf a)
 lengths-stop s a number e h =
     shape-stop (doublesOf s) (doublesOf a) number (rw (← length-doubles s, ← length-doubles a) at e) h

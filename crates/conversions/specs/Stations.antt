@@ -3,7 +3,6 @@ use Prim.Native.Nat.{ℕ, _*_, _-_, _/_}
 use mathlib.Core.Path.{_≡_}
 use mathlib.Core.Bool.{Bool, _&&_}
 use mathlib.Core.List.{List}
-use lib.Dec.{eqb, leb}
 use lib.ListN.{length}
 use lib.Ieee.{Float}
 use Rattle.loops.specs.Upto.{filled, at}
@@ -93,10 +92,6 @@ GridAnswered s a t t0 dt final number =
     (gridEntries (doublesOf s) (doublesOf a) (doublesOf t) t0 dt final)
 
 -- ---- cited by inner functions alone
--- 11 and 12, of n stations and m speeds
-abbrev pub lengthsNo : ℕ → ℕ → ℕ
-lengthsNo n m = unless (leb 2 n && leb n 4096) 11 or unless (eqb m n) 12
-
 -- how many doubles an answer of t to s has for the output
 abbrev pub entriesOf : Sampled → ℕ
 entriesOf (sampled.Done c) = c .written

@@ -1,7 +1,7 @@
 // t to s on an even grid, on byte lists.
-use crate::profile;
 use crate::samples;
 use byte_lists::doubles;
+use profile::checks;
 use sampling::grid::t_to_s_topp2_grid;
 use sampling::samples::Sampled;
 ghost use Prim.Native.Nat.{_/_, _≤_, min};
@@ -108,7 +108,7 @@ pub fn t_to_s_grid(
 {
     if doubles::in_eights(s.len(), a.len(), out.len()) {
         if t.len() % 8 == 0 {
-            let number = profile::lengths(s.len() / 8, a.len() / 8);
+            let number = checks::check_lengths(s.len() / 8, a.len() / 8);
             if number == 0 {
                 return with_profile(s, a, t, t0, dt, end, out);
             }

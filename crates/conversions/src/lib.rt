@@ -2,7 +2,6 @@
 // without being decoded.
 pub mod grid;
 pub mod list;
-mod profile;
 mod samples;
 pub mod slopes;
 pub mod times;

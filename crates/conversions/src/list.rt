@@ -1,7 +1,7 @@
 // t to s for a sample list, on byte lists.
-use crate::profile;
 use crate::samples;
 use byte_lists::doubles;
+use profile::checks;
 use sampling::list::t_to_s_topp2_list;
 use sampling::samples::Sampled;
 ghost use Prim.Native.Nat.{_/_, _≤_};
@@ -114,7 +114,7 @@ pub fn t_to_s_list(s: &[u8], a: &[u8], t: &[u8], x: &[u8], out: &mut [u8]) -> Sa
 {
     if doubles::in_eights(s.len(), a.len(), out.len()) {
         if doubles::in_eights(t.len(), x.len(), out.len()) {
-            let number = profile::lengths(s.len() / 8, a.len() / 8);
+            let number = checks::check_lengths(s.len() / 8, a.len() / 8);
             if number == 0 {
                 return with_profile(s, a, t, x, out);
             }

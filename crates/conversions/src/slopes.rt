@@ -1,8 +1,8 @@
 // a to b on byte lists.
-use crate::profile;
 use byte_lists::doubles;
 use interpolation::slopes::Sloped;
 use interpolation::slopes::a_to_b_topp2;
+use profile::checks;
 ghost use mathlib.Core.Path.{_≡_};
 ghost use Prim.Native.Nat.{_-_, _/_, _≤_};
 ghost use lib.ListN.{length};
@@ -54,7 +54,7 @@ pub fn a_to_b(s: &[u8], a: &[u8], out: &mut [u8]) -> u64
     ensures { λ r. ⌜ SlopesReplied (now (s .entry)) (now (a .entry)) (slopesByteNo (now (s .entry)) (now (a .entry)) (now (out .entry))) (now (out .entry)) r (now (out .exit)) ⌝ }
 {
     if doubles::in_eights(s.len(), a.len(), out.len()) {
-        let number = profile::lengths(s.len() / 8, a.len() / 8);
+        let number = checks::check_lengths(s.len() / 8, a.len() / 8);
         if number == 0 {
             return decoded(s, a, out);
         }

@@ -1,8 +1,8 @@
 // s to t on byte lists.
-use crate::profile;
 use byte_lists::doubles;
 use interpolation::times::Timed;
 use interpolation::times::s_to_t_topp2;
+use profile::checks;
 ghost use mathlib.Core.Path.{_≡_};
 ghost use Prim.Native.Nat.{_/_, _≤_};
 ghost use lib.ListN.{length};
@@ -55,7 +55,7 @@ pub fn s_to_t(s: &[u8], a: &[u8], t0: f64, out: &mut [u8]) -> u64
     ensures { λ r. ⌜ TimesReplied (now (s .entry)) (now (a .entry)) t0 (timesByteNo (now (s .entry)) (now (a .entry)) t0 (now (out .entry))) (now (out .entry)) r (now (out .exit)) ⌝ }
 {
     if doubles::in_eights(s.len(), a.len(), out.len()) {
-        let number = profile::lengths(s.len() / 8, a.len() / 8);
+        let number = checks::check_lengths(s.len() / 8, a.len() / 8);
         if number == 0 {
             return decoded(s, a, t0, out);
         }

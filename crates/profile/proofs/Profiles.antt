@@ -1,5 +1,5 @@
--- What a profile that passes its checks has.
-use Prim.Native.Nat.{_≤_}
+-- What a profile that passes its checks has, and what its lengths decide.
+use Prim.Native.Nat.{ℕ, _≤_}
 use mathlib.Core.Path.{_≡_}
 use mathlib.Core.Bool.{_&&_}
 use mathlib.Core.List.{List}
@@ -7,31 +7,38 @@ use native.Mathlib.Omega.{arith}
 use borrow.Author.Tests.{leb-true, eqb-true}
 use lib.Dec.{leb, eqb}
 use lib.ListN.{length}
-use lib.Ieee.{Float, lt}
-use lib.Ieee.Scale.{finite}
-use Rattle.refusals.specs.Refusals.{unless, _or_}
+use lib.Ieee.{Float}
 use Rattle.loops.proofs.Counting.{and-left, and-right}
+use Rattle.refusals.specs.Refusals.{unless}
+use Rattle.refusals.specs.Most.{mostStations}
 use Rattle.refusals.proofs.Chains.{or-none, unless-none}
-use Rattle.loops.specs.Entries.{everyEntry, everyPair}
-use Rattle.interpolation.specs.Profile.{profileNo}
+use Rattle.refusals.proofs.Outcomes.{or-stop}
+use Rattle.profile.specs.Profile.{lengthsNo, entriesNo, profileNo}
 
-pub record Shaped (s a : List Float) : Type 0 where
-  pub low : 2 ≤ length s
-  pub high : length s ≤ 4096
-  pub same : length a ≡ length s
+-- n stations and m speeds
+pub record Shaped (n m : ℕ) : Type 0 where
+  pub low : 2 ≤ n
+  pub high : n ≤ mostStations
+  pub same : m ≡ n
 
-pub shaped : (s a : List Float) → profileNo s a ≡ 0 → Shaped s a
-unfolding profileNo
-shaped s a h =
-    let n = length s in
+pub lengths-pass : (n m : ℕ) → lengthsNo n m ≡ 0 → Shaped n m
+unfolding lengthsNo
+lengths-pass n m h =
     let two = leb 2 n in
-    let few = leb n 4096 in
-    let entries = unless (everyEntry finite s) 13 or unless (everyEntry finite a) 14 or unless (everyPair lt s) 15 in
-    let p = or-none (unless (two && few) 11) (unless (eqb (length a) n) 12 or entries) h in
-    let q = or-none (unless (eqb (length a) n) 12) entries (p .1) in
+    let few = leb n mostStations in
+    let p = or-none (unless (two && few) 11) (unless (eqb m n) 12) h in
     let ok = unless-none (two && few) 11 (omega arith) (p .0) in
     record {
       low = leb-true 2 n (and-left two few ok);
-      high = leb-true n 4096 (and-right two few ok);
-      same = eqb-true (length a) n (unless-none (eqb (length a) n) 12 (omega arith) (q .0));
+      high = leb-true n mostStations (and-right two few ok);
+      same = eqb-true m n (unless-none (eqb m n) 12 (omega arith) (p .1));
     }
+
+pub shaped : (s a : List Float) → profileNo s a ≡ 0 → Shaped (length s) (length a)
+unfolding profileNo
+shaped s a h = lengths-pass (length s) (length a) (or-none (lengthsNo (length s) (length a)) (entriesNo s a) h .0)
+
+-- 11 and 12 come first
+pub lengths-stop : (s a : List Float) (number : ℕ) → number ≡ lengthsNo (length s) (length a) → (number ≡ 0 → ⊥) → number ≡ profileNo s a
+unfolding profileNo
+lengths-stop s a number e h = or-stop number (lengthsNo (length s) (length a)) (entriesNo s a) e h

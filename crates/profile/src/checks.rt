@@ -1,17 +1,18 @@
-// The checks of a profile, 11 to 15, 17 and 18, and what they are made of. Lengths come first, so that no list over its limit is walked.
+// The checks of a profile, 11 to 15, 17 and 18, and what they are made of.
 use number::size;
 use refusals::chain::or;
 use refusals::chain::unless;
+use refusals::most;
 ghost use mathlib.Core.Path.{_≡_};
 ghost use lib.Ieee.{lt};
 ghost use lib.Ieee.Scale.{finite};
 ghost use Rattle.refusals.specs.Refusals.{unless, _or_};
 ghost use Rattle.loops.specs.Entries.{everyEntry, everyPair};
-ghost use Rattle.interpolation.specs.Profile.{profileNo, speedNo};
-ghost use Rattle.interpolation.specs.Parts.{entryTest, pairTest};
+ghost use Rattle.profile.specs.Profile.{lengthsNo, entriesNo, profileNo, speedNo};
+ghost use Rattle.profile.specs.Tests.{entryTest, pairTest};
 
 // What is asked of each entry of a list ..
-pub(crate) enum Entry {
+pub enum Entry {
     Finite,
     NotBelowZero,
 }
@@ -40,7 +41,7 @@ fn pair_passes(test: Pair, x: f64, y: f64) -> bool
     }
 }
 
-pub(crate) fn every_entry(test: Entry, x: &[f64]) -> bool
+pub fn every_entry(test: Entry, x: &[f64]) -> bool
     ensures { λ r. ⌜ r ≡ everyEntry (entryTest test) (now (x .entry)) ⌝ }
 {
     let mut i = 0;
@@ -76,9 +77,22 @@ pub fn check_rising(x: &[f64], infinite: u64, falls: u64) -> u64
     or(unless(every_entry(Entry::Finite, x), infinite), later)
 }
 
+// 11 and 12, of so many stations and speeds: told by the lengths alone, so that no list over its limit is walked.
+pub fn check_lengths(stations: usize, speeds: usize) -> u64
+    ensures { λ r. ⌜ r ≡ lengthsNo stations speeds ⌝ }
+{
+    if stations < 2 {
+        return 11;
+    }
+    if most::STATIONS < stations {
+        return 11;
+    }
+    unless(speeds == stations, 12)
+}
+
 // 13 to 15
-fn entries(s: &[f64], a: &[f64]) -> u64
-    ensures { λ r. ⌜ r ≡ unless (everyEntry finite (now (s .entry))) 13 or unless (everyEntry finite (now (a .entry))) 14 or unless (everyPair lt (now (s .entry))) 15 ⌝ }
+fn check_entries(s: &[f64], a: &[f64]) -> u64
+    ensures { λ r. ⌜ r ≡ entriesNo (now (s .entry)) (now (a .entry)) ⌝ }
 {
     let falls = unless(every_pair(Pair::Rising, s), 15);
     let open = or(unless(every_entry(Entry::Finite, a), 14), falls);
@@ -89,16 +103,12 @@ fn entries(s: &[f64], a: &[f64]) -> u64
 pub fn check_topp2_sa(s: &[f64], a: &[f64]) -> u64
     ensures { λ r. ⌜ r ≡ profileNo (now (s .entry)) (now (a .entry)) ⌝ }
 {
-    if s.len() < 2 {
-        return 11;
+    let number = check_lengths(s.len(), a.len());
+    if number == 0 {
+        check_entries(s, a)
+    } else {
+        number
     }
-    if 4096 < s.len() {
-        return 11;
-    }
-    if a.len() == s.len() {
-        return entries(s, a);
-    }
-    12
 }
 
 // 17 and 18

@@ -10,25 +10,26 @@ use lib.Dec.{leb, ltb}
 use lib.ListN.{length, set}
 use lib.Ieee.{Float, lt, le}
 use lib.Ieee.Scale.{finite}
+use Rattle.number.specs.Doubles.{zero as plus-zero}
 use Rattle.loops.specs.Upto.{filled, at}
+use Rattle.refusals.specs.Most.{mostSamples}
 use Rattle.refusals.specs.Refusals.{unless, _or_}
 use Rattle.loops.proofs.Filling.{fill-turn, fill-same, filled-at}
 use Rattle.refusals.proofs.Chains.{or-none, unless-none}
 use Rattle.loops.specs.Entries.{everyEntry, everyPair}
-use Rattle.interpolation.specs.Profile.{zeroF}
 use Rattle.sampling.specs.Samples.{countsOf, timedNo}
 use Rattle.sampling.specs.List.{samplesNo, listNo}
 use Rattle.sampling.specs.Grid.{lastOf, gridSize, gridTime, finalAdded, evenNo, gridNo, gridStation, gridEntry, gridEntries, Gridded}
-use Rattle.sampling.specs.Parts.{oneMore, Ended}
+use Rattle.sampling.specs.Following.{oneMore, Ended}
 use Rattle.sampling.specs.declared.samples.Counts.{Counts}
 use Rattle.sampling.specs.declared.samples.Sampled.the-variants.{Done}
 use Rattle.refusals.proofs.Outcomes.{succeeds}
 use Rattle.sampling.proofs.Walks.{timed}
 
-sampled : (x : List Float) (room : ℕ) → samplesNo x room ≡ 0 → (length x ≤ 65536) × (length x ≤ room)
+sampled : (x : List Float) (room : ℕ) → samplesNo x room ≡ 0 → (length x ≤ mostSamples) × (length x ≤ room)
 unfolding samplesNo
 sampled x room h =
-    let few = leb (length x) 65536 in
+    let few = leb (length x) mostSamples in
     let short = unless (leb (length x) room) 29 in
     let falls = unless (everyPair lt x) 27 or short in
     let entries = unless (everyEntry finite x) 26 or falls in
@@ -39,7 +40,7 @@ sampled x room h =
     (leb-true _ _ (unless-none few 28 (omega arith) (q .0)), leb-true _ _ (unless-none (leb (length x) room) 29 (omega arith) (v .1)))
 
 pub listed : (s a t x : List Float) (room : ℕ) → listNo s a t x room ≡ 0
-    → (length a ≡ length s) × (length t ≡ length s) × (2 ≤ length s) × (length x ≤ 65536) × (length x ≤ room)
+    → (length a ≡ length s) × (length t ≡ length s) × (2 ≤ length s) × (length x ≤ mostSamples) × (length x ≤ room)
 unfolding listNo
 listed s a t x room h =
     let p = or-none (timedNo s a t) (samplesNo x room) h in
@@ -47,28 +48,26 @@ listed s a t x room h =
     let v = sampled x room (p .1) in
     (q .0, q .1, q .2, v .0, v .1)
 
-sized : (t : List Float) (t0 dt : Float) (final : Bool) (room : ℕ) → evenNo t t0 dt final room ≡ 0
-    → (gridSize t t0 dt ≤ 65536) × (gridSize t t0 dt + cond final 1 0 ≤ room)
+pub sized : (t : List Float) (t0 dt : Float) → evenNo t t0 dt ≡ 0 → gridSize t t0 dt ≤ mostSamples
 unfolding evenNo
-sized t t0 dt final room h =
-    let n = gridSize t t0 dt in
-    let short = unless (leb (n + cond final 1 0) room) 29 in
-    let many = unless (leb n 65536) 28 or short in
-    let still = unless (not (le dt zeroF)) 24 or many in
+sized t t0 dt h =
+    let few = leb (gridSize t t0 dt) mostSamples in
+    let many = unless few 28 in
+    let still = unless (not (le dt plus-zero)) 24 or many in
     let p = or-none (unless (finite t0) 16) (unless (finite dt) 23 or still) h in
     let q = or-none (unless (finite dt) 23) still (p .1) in
-    let u = or-none (unless (not (le dt zeroF)) 24) many (q .1) in
-    let v = or-none (unless (leb n 65536) 28) short (u .1) in
-    (leb-true _ _ (unless-none (leb n 65536) 28 (omega arith) (v .0)), leb-true _ _ (unless-none (leb (n + cond final 1 0) room) 29 (omega arith) (v .1)))
+    let u = or-none (unless (not (le dt plus-zero)) 24) many (q .1) in
+    leb-true _ _ (unless-none few 28 (omega arith) (u .1))
 
 pub gridded : (s a t : List Float) (t0 dt : Float) (final : Bool) (room : ℕ) → gridNo s a t t0 dt final room ≡ 0
-    → (length a ≡ length s) × (length t ≡ length s) × (2 ≤ length s) × (gridSize t t0 dt ≤ 65536) × (gridSize t t0 dt + cond final 1 0 ≤ room)
+    → (length a ≡ length s) × (length t ≡ length s) × (2 ≤ length s) × (gridSize t t0 dt ≤ mostSamples) × (gridSize t t0 dt + cond final 1 0 ≤ room)
 unfolding gridNo
 gridded s a t t0 dt final room h =
-    let p = or-none (timedNo s a t) (evenNo t t0 dt final room) h in
+    let enough = leb (gridSize t t0 dt + cond final 1 0) room in
+    let p = or-none (timedNo s a t) (evenNo t t0 dt or unless enough 29) h in
+    let u = or-none (evenNo t t0 dt) (unless enough 29) (p .1) in
     let q = timed s a t (p .0) in
-    let v = sized t t0 dt final room (p .1) in
-    (q .0, q .1, q .2, v .0, v .1)
+    (q .0, q .1, q .2, sized t t0 dt (u .0), leb-true _ _ (unless-none enough 29 (omega arith) (u .1)))
 
 -- the rule for the final looks at the last entry, which the walk has written
 last-entry : (s t : List Float) (t0 : Float) (n : ℕ) (f : ℕ → Float) (old : List Float) → finalAdded s t t0 n (at (filled f n old) (n - 1)) ≡ finalAdded s t t0 n (f (n - 1))

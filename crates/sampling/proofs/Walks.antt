@@ -9,23 +9,25 @@ use native.Mathlib.Omega.{arith}
 use borrow.Author.Tests.{not-false, not-true, eqb-true, ltb-true, lt-ltb}
 use lib.Dec.{T, eqb, ltb}
 use lib.ListN.{length}
-use lib.Ieee.{Float, binary64, add, sub, lt, le}
+use lib.Ieee.{Float, lt, le}
 use lib.Ieee.Bits.{is-true}
 use lib.Ieee.Scale.{finite}
 use Rattle.number.proofs.Order.{holds, fails, lt-le-transitive, le-lt-transitive}
 use Rattle.loops.specs.Upto.{count, at}
+use Rattle.refusals.specs.Most.{mostSamples}
 use Rattle.refusals.specs.Refusals.{unless, _or_}
 use Rattle.loops.proofs.Counting.{and-left, and-right, count-le, count-more, count-stretch, first-is, first-before, first-le}
 use Rattle.refusals.proofs.Chains.{or-none, unless-none}
 use Rattle.loops.specs.Entries.{everyEntry, everyPair}
-use Rattle.interpolation.specs.Profile.{profileNo, speedNo}
-use Rattle.sampling.specs.Samples.{intervalOf, inverse2order, stationIn, isBefore, isInside, isPast, stationAt, countsOf, timedNo}
-use Rattle.sampling.specs.Parts.{Reaches, pieceAt, Standing, stays, Bounded, oneMore, moreInside, tallied}
-use Rattle.sampling.specs.declared.interval.Walk.{Walk}
+use Rattle.profile.specs.Profile.{profileNo, speedNo}
+use Rattle.pieces.specs.Pieces.{stationInside, stationIn}
+use Rattle.sampling.specs.Samples.{intervalOf, isBefore, isInside, isPast, stationAt, countsOf, timedNo}
+use Rattle.sampling.specs.Following.{Reaches, Standing, stays, Bounded, oneMore, moreInside, tallied}
+use Rattle.sampling.specs.declared.interval.Cursor.{Cursor}
 use Rattle.sampling.specs.declared.samples.Counts.{Counts}
 use Rattle.sampling.specs.declared.samples.Source.{Source}
 use Rattle.sampling.specs.declared.samples.Source.the-variants.{Listed, Even}
-use Rattle.interpolation.proofs.Profiles.{shaped}
+use Rattle.profile.proofs.Profiles.{shaped}
 
 pub reaches-less : (source : Source) (x : List Float) (n k : ℕ) → Reaches source x n → k ≤ n → Reaches source x k
 reaches-less Listed x n k h l = omega arith
@@ -52,9 +54,9 @@ pub still-below : (x y z : Float) → lt x y ≡ true → le y z ≡ true → lt
 still-below x y z p q = is-true _ (lt-le-transitive x y z (holds p) (holds q))
 
 -- the station that the walk's piece gives
-pub station-held : (s a t : List Float) (w : Walk) (x : Float) → length t ≡ length s → w .interval ≡ intervalOf t x → Standing s a t w → isInside t x ≡ true
-    → add binary64 (w .piece .station) (inverse2order (w .piece .root) (w .piece .slope) (sub binary64 x (w .piece .time))) ≡ stationAt s a t x
-unfolding stationAt stationIn pieceAt
+pub station-held : (s a t : List Float) (w : Cursor) (x : Float) → length t ≡ length s → w .interval ≡ intervalOf t x → Standing s a t w → isInside t x ≡ true
+    → stationInside (w .piece) x ≡ stationAt s a t x
+unfolding stationAt stationIn
 station-held s a t w x e k h i =
     let l = inside-within t x i in
     rw (h .held (omega arith), i, ← k)
@@ -75,7 +77,7 @@ not-below-too y x z h e = go (lt x z) (λ l. fails e (le-lt-transitive y x z (ho
     go false n = refl
 
 -- a time that stays has the walk's interval, and is inside with the walk's own time
-module _ (s a t : List Float) (w : Walk) (x : Float) (h : Standing s a t w) (k : w .interval ≡ intervalOf t (w .time)) (i : isInside t (w .time) ≡ true) (y : stays t w x ≡ true) where
+module _ (s a t : List Float) (w : Cursor) (x : Float) (h : Standing s a t w) (k : w .interval ≡ intervalOf t (w .time)) (i : isInside t (w .time) ≡ true) (y : stays t w x ≡ true) where
   not-below : le (w .time) x ≡ true
   not-below = and-left (le (w .time) x) (not (lt (at t (w .interval + 1)) x)) y
 
@@ -124,7 +126,7 @@ pub counts-written : (t : List Float) (f : ℕ → Float) (n : ℕ) (c : Counts)
 unfolding countsOf
 counts-written t f n c e = rw e
 
-pub counts-bounded : (t : List Float) (f : ℕ → Float) (n : ℕ) (c : Counts) → c ≡ countsOf t f n n → n ≤ 65536 → Bounded c
+pub counts-bounded : (t : List Float) (f : ℕ → Float) (n : ℕ) (c : Counts) → c ≡ countsOf t f n n → n ≤ mostSamples → Bounded c
 unfolding countsOf
 counts-bounded t f n c e h = rw e (record { few-before = count-le _ n; few-inside = count-le _ n; few-past = count-le _ n; few = h })
 

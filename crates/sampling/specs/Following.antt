@@ -1,16 +1,16 @@
--- The walk of t to s: what contracts of inner functions cite, and no public one.
+-- The walk of t to s, from one time to the next: what contracts of inner functions cite, and no public one.
 use Prim.Native.Nat.{ℕ, _+_, _-_, _≤_, _<_}
 use mathlib.Core.Path.{_≡_}
 use mathlib.Core.Bool.{Bool, true, not, cond, _&&_}
 use mathlib.Core.List.{List}
 use lib.ListN.{length, set}
-use lib.Ieee.{Float, binary64, lt, le}
-use Rattle.roots.specs.Root.{sqrtOf}
+use lib.Ieee.{Float, lt, le}
 use Rattle.loops.specs.Upto.{at, filled}
-use Rattle.sampling.specs.Samples.{c1At, isBefore, isInside, isPast}
+use Rattle.refusals.specs.Most.{mostSamples}
+use Rattle.pieces.specs.Pieces.{pieceAt}
+use Rattle.sampling.specs.Samples.{isBefore, isInside, isPast}
 use Rattle.sampling.specs.Grid.{gridTime}
-use Rattle.sampling.specs.declared.interval.Piece.{Piece}
-use Rattle.sampling.specs.declared.interval.Walk.{Walk}
+use Rattle.sampling.specs.declared.interval.Cursor.{Cursor}
 use Rattle.sampling.specs.declared.samples.Counts.{Counts}
 use Rattle.sampling.specs.declared.samples.Source.{Source}
 use Rattle.sampling.specs.declared.samples.Source.the-variants.{Listed, Even}
@@ -25,17 +25,14 @@ abbrev pub Reaches : Source → List Float → ℕ → Type 0
 Reaches Listed x n = n ≤ length x
 Reaches (Even t0 dt) x n = Unit {0}
 
-unfoldable pub pieceAt : List Float → List Float → List Float → ℕ → Piece
-pieceAt s a t k = record { station = at s k; time = at t k; root = sqrtOf binary64 (at a k); slope = c1At s a k }
-
 -- every interval before that of the walk ends below its time, and its piece is that of the interval
-pub record Standing (s a t : List Float) (w : Walk) : Type 0 where
+pub record Standing (s a t : List Float) (w : Cursor) : Type 0 where
   pub within : w .interval ≤ length t - 1
   pub behind : (k : ℕ) → k < w .interval → lt (at t (k + 1)) (w .time) ≡ true
   pub held : w .interval + 1 < length s → w .piece ≡ pieceAt s a t (w .interval)
 
 -- x is not below the walk's time, nor past the end of its interval
-abbrev pub stays : List Float → Walk → Float → Bool
+abbrev pub stays : List Float → Cursor → Float → Bool
 stays t w x = le (w .time) x && not (lt (at t (w .interval + 1)) x)
 
 -- the times from `start` up to r are inside, and the first r entries are those of f
@@ -50,7 +47,7 @@ pub record Bounded (c : Counts) : Type 0 where
   pub few-before : c .before ≤ c .written
   pub few-inside : c .inside ≤ c .written
   pub few-past : c .past ≤ c .written
-  pub few : c .written ≤ 65536
+  pub few : c .written ≤ mostSamples
 
 -- one entry more, and what it adds to the times before, inside and past
 unfoldable pub oneMore : Counts → ℕ → ℕ → ℕ → Counts

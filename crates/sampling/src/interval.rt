@@ -1,25 +1,18 @@
-// The interval of one time, and the station within it.
-use fused::multiply_add;
-use roots::square_root;
+// The interval of one time, and the cursor that is carried from a time to the next.
+use pieces::pair;
+use pieces::pair::Piece;
 ghost use mathlib.Core.Path.{_≡_};
 ghost use mathlib.Core.Bool.{true};
 ghost use Prim.Native.Nat.{ℕ, _+_, _-_, _<_, _≤_};
 ghost use lib.ListN.{length};
-ghost use lib.Ieee.{binary64, lt, add, sub};
+ghost use lib.Ieee.{lt};
 ghost use Rattle.loops.specs.Upto.{at};
-ghost use Rattle.sampling.specs.Samples.{intervalOf, inverse2order};
-ghost use Rattle.sampling.specs.Parts.{pieceAt, Standing};
+ghost use Rattle.pieces.specs.Pieces.{pieceAt};
+ghost use Rattle.sampling.specs.Samples.{intervalOf};
+ghost use Rattle.sampling.specs.Following.{Standing};
 
-// What is worked out once for an interval: s0, t0, root a0 and c1 = (a1 - a0)/(s1 - s0).
-pub(crate) struct Piece {
-    pub station: f64,
-    pub time: f64,
-    pub root: f64,
-    pub slope: f64,
-}
-
-// Where the walk stands: the last time, its interval and, but past the last time, that interval's piece.
-pub(crate) struct Walk {
+// Where a walk over the times stands: the last time, its interval and, but past the last time, that interval's piece.
+pub(crate) struct Cursor {
     pub time: f64,
     pub interval: usize,
     pub piece: Piece,
@@ -29,25 +22,7 @@ pub(crate) fn piece_at(s: &[f64], a: &[f64], t: &[f64], k: usize) -> Piece
     requires { ⌜ (length (now a) ≡ length (now s)) × (length (now t) ≡ length (now s)) × (k + 1 < length (now s)) ⌝ }
     ensures { λ r. ⌜ r ≡ pieceAt (now (s .entry)) (now (a .entry)) (now (t .entry)) k ⌝ }
 {
-    Piece {
-        station: s[k],
-        time: t[k],
-        root: square_root::sqrt(a[k]),
-        slope: (a[k + 1] - a[k]) / (s[k + 1] - s[k]),
-    }
-}
-
-// The Rust's, with the root of c0 for c0.
-fn inverse_2order(root: f64, c1: f64, dt: f64) -> f64
-    ensures { λ r. ⌜ r ≡ inverse2order root c1 dt ⌝ }
-{
-    dt * multiply_add::fma(c1, 0.25 * dt, root)
-}
-
-pub(crate) fn inside(p: Piece, x: f64) -> f64
-    ensures { λ r. ⌜ r ≡ add binary64 (p .station) (inverse2order (p .root) (p .slope) (sub binary64 x (p .time))) ⌝ }
-{
-    p.station + inverse_2order(p.root, p.slope, x - p.time)
+    pair::piece_of(s[k], s[k + 1], a[k], a[k + 1], t[k])
 }
 
 // The interval of x, looked for from one before which all end below x.
@@ -88,12 +63,12 @@ fn turned(p: Piece, s: &[f64], a: &[f64], t: &[f64], old: usize, k: usize) -> Pi
     p
 }
 
-pub(crate) fn advance(w: Walk, s: &[f64], a: &[f64], t: &[f64], x: f64) -> Walk
+pub(crate) fn advance(w: Cursor, s: &[f64], a: &[f64], t: &[f64], x: f64) -> Cursor
     requires { ⌜ (length (now a) ≡ length (now s)) × (length (now t) ≡ length (now s)) × Standing (now s) (now a) (now t) w ⌝ }
     ensures { λ r. ⌜ (r .interval ≡ intervalOf (now (t .entry)) x) × (r .time ≡ x) × Standing (now (s .entry)) (now (a .entry)) (now (t .entry)) r ⌝ }
 {
     let k = interval_from(t, x, look_from(t, x, w.time, w.interval));
-    Walk {
+    Cursor {
         time: x,
         interval: k,
         piece: turned(w.piece, s, a, t, w.interval, k),

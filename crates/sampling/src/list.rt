@@ -2,9 +2,10 @@
 use crate::samples;
 use crate::samples::Sampled;
 use crate::samples::Source;
-use interpolation::checks;
+use profile::checks;
 use refusals::chain::or;
 use refusals::chain::unless;
+use refusals::most;
 ghost use mathlib.Core.Path.{_≡_};
 ghost use Rattle.sampling.specs.List.{samplesNo, listNo, Listed};
 
@@ -15,7 +16,7 @@ fn samples_refusal(x: &[f64], room: usize) -> u64
     if x.len() == 0 {
         return 25;
     }
-    if 65536 < x.len() {
+    if most::SAMPLES < x.len() {
         return 28;
     }
     let short = unless(x.len() <= room, 29);

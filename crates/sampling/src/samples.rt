@@ -1,7 +1,8 @@
 // t to s: the station at each time of a list or of an even grid, by one walk for both.
 use crate::interval;
-use crate::interval::Walk;
-use interpolation::checks;
+use crate::interval::Cursor;
+use pieces::pair;
+use profile::checks;
 use refusals::chain::or;
 ghost use mathlib.Core.Path.{_≡_};
 ghost use mathlib.Core.Bool.{not, cond, _&&_};
@@ -11,11 +12,12 @@ ghost use lib.ListN.{length};
 ghost use lib.Ieee.{lt};
 ghost use lib.Ieee.Scale.{finite};
 ghost use Rattle.loops.specs.Upto.{filled};
+ghost use Rattle.refusals.specs.Most.{mostSamples};
 ghost use Rattle.refusals.specs.Refusals.{unless, _or_};
 ghost use Rattle.loops.specs.Entries.{everyEntry, everyPair};
 ghost use Rattle.sampling.specs.Samples.{intervalOf, isBefore, isInside, stationAt, countsOf, timedNo};
 ghost use Rattle.sampling.specs.Grid.{gridTime};
-ghost use Rattle.sampling.specs.Parts.{timeOf, Reaches, Bounded, oneMore, moreInside, tallied, Standing, stays, Followed};
+ghost use Rattle.sampling.specs.Following.{timeOf, Reaches, Bounded, oneMore, moreInside, tallied, Standing, stays, Followed};
 
 // The times before, inside and past, and the entries written.
 pub struct Counts {
@@ -106,7 +108,7 @@ fn tally(c: Counts, t: &[f64], x: f64, k: usize) -> Counts
 }
 
 fn more_inside(c: Counts, m: usize) -> Counts
-    requires { ⌜ (c .written + m ≤ 65536) × Bounded c ⌝ }
+    requires { ⌜ (c .written + m ≤ mostSamples) × Bounded c ⌝ }
     ensures { λ r. ⌜ r ≡ moreInside c m ⌝ }
 {
     Counts {
@@ -118,19 +120,19 @@ fn more_inside(c: Counts, m: usize) -> Counts
 }
 
 // The station at x, where the walk stands at x.
-fn station(s: &[f64], a: &[f64], t: &[f64], w: Walk, x: f64) -> f64
+fn station(s: &[f64], a: &[f64], t: &[f64], w: Cursor, x: f64) -> f64
     requires { ⌜ (length (now t) ≡ length (now s)) × (1 ≤ length (now t)) × (w .interval ≡ intervalOf (now t) x) × Standing (now s) (now a) (now t) w ⌝ }
     ensures { λ r. ⌜ r ≡ stationAt (now (s .entry)) (now (a .entry)) (now (t .entry)) x ⌝ }
 {
     if is_inside(t, x, w.interval) {
-        interval::inside(w.piece, x)
+        pair::inside(w.piece, x)
     } else {
         0.0 / 0.0
     }
 }
 
 // A time that stays has the walk's interval, and need not be looked for.
-fn stays(t: &[f64], w: Walk, x: f64) -> bool
+fn stays(t: &[f64], w: Cursor, x: f64) -> bool
     requires { ⌜ w .interval + 1 < length (now t) ⌝ }
     ensures { λ r. ⌜ r ≡ stays (now (t .entry)) w x ⌝ }
 {
@@ -146,7 +148,7 @@ fn follow(
     s: &[f64],
     a: &[f64],
     t: &[f64],
-    w: Walk,
+    w: Cursor,
     source: Source,
     x: &[f64],
     start: usize,
@@ -166,7 +168,7 @@ fn follow(
         if !stays(t, w, y) {
             return j;
         }
-        out[j] = interval::inside(w.piece, y);
+        out[j] = pair::inside(w.piece, y);
         j += 1;
     }
     j
@@ -182,7 +184,7 @@ pub(crate) fn t_to_s_topp2_core(
     n: usize,
     out: &mut [f64],
 ) -> Counts
-    requires { ⌜ (length (now a) ≡ length (now s)) × (length (now t) ≡ length (now s)) × (2 ≤ length (now s)) × (n ≤ 65536) × (n ≤ length (now out)) × Reaches source (now x) n ⌝ }
+    requires { ⌜ (length (now a) ≡ length (now s)) × (length (now t) ≡ length (now s)) × (2 ≤ length (now s)) × (n ≤ mostSamples) × (n ≤ length (now out)) × Reaches source (now x) n ⌝ }
     ensures { λ r. ⌜ (r ≡ countsOf (now (t .entry)) (timeOf source (now (x .entry))) n n)
         × (now (out .exit) ≡ filled (λ j. stationAt (now (s .entry)) (now (a .entry)) (now (t .entry)) (timeOf source (now (x .entry)) j)) n (now (out .entry))) ⌝ }
 {
@@ -192,7 +194,7 @@ pub(crate) fn t_to_s_topp2_core(
         past: 0,
         written: 0,
     };
-    let mut w = Walk {
+    let mut w = Cursor {
         time: 0.0,
         interval: 0,
         piece: interval::piece_at(s, a, t, 0),

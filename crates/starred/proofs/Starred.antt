@@ -16,15 +16,16 @@ use Rattle.topp2_ra.specs.Recovery.{wholeRows, tolerance, noneNan, inputsGood, 
 use Rattle.limits.specs.Row.{unfit, unmeetable}
 use Rattle.loops.specs.Upto.{every, count, seek, first, table, filled}
 use Rattle.loops.specs.Entries.{everyEntry, everyPair}
-use Rattle.interpolation.specs.Profile.{notBelowZero, notBothZero, profileNo, speedNo}
+use Rattle.profile.specs.Profile.{notBelowZero, notBothZero, lengthsNo, entriesNo, profileNo, speedNo}
 use Rattle.interpolation.specs.Slopes.{slope, slopesNo}
 use Rattle.interpolation.specs.Times.{leg, legTime, timeAt, timesFinite, startNo, timesNo}
-use Rattle.sampling.specs.Samples.{intervalOf, inverse2order, c1At, stationIn, isBefore, isInside, isPast, stationAt, countsOf, timedNo}
+use Rattle.pieces.specs.Pieces.{pieceOf, inverse2order, stationInside, pieceAt, stationIn}
+use Rattle.sampling.specs.Samples.{intervalOf, isBefore, isInside, isPast, stationAt, countsOf, timedNo}
 use Rattle.sampling.specs.List.{samplesNo, listNo}
 use Rattle.sampling.specs.Grid.{lastOf, gridSize, gridTime, finalAdded, evenNo, gridNo, gridStation, gridEntry, gridEntries}
 use Rattle.starred.specs.Cases.{AllHold, starred}
 
 pub starred-hold : AllHold starred
-unfolding round add sub mul div lt le eq isNan ofBits toBits negative countsBelow minimum maximum absolute nextDown rowsOf fold any all rootIn isqrt stickRoot rootNearest sqrtOf hypotOf infPlus fmaOf approxOrder insidePrevious numbersFinite allWithin admits between passes worseNormalized worseRaw certificate reach incline cutBy narrowed unreachable flatBy flat neighbours tryNeighbours searched wholeRows tolerance noneNan inputsGood previousGood currentGood unfit unmeetable afterCap withRows recovered every count seek first table filled everyEntry everyPair notBelowZero notBothZero profileNo speedNo slope slopesNo leg legTime timeAt timesFinite startNo timesNo intervalOf inverse2order c1At stationIn isBefore isInside isPast stationAt countsOf timedNo samplesNo listNo lastOf gridSize gridTime finalAdded evenNo gridNo gridStation gridEntry gridEntries ofInt toUnsigned
+unfolding round add sub mul div lt le eq isNan ofBits toBits negative countsBelow minimum maximum absolute nextDown rowsOf fold any all rootIn isqrt stickRoot rootNearest sqrtOf hypotOf infPlus fmaOf approxOrder insidePrevious numbersFinite allWithin admits between passes worseNormalized worseRaw certificate reach incline cutBy narrowed unreachable flatBy flat neighbours tryNeighbours searched wholeRows tolerance noneNan inputsGood previousGood currentGood unfit unmeetable afterCap withRows recovered every count seek first table filled everyEntry everyPair notBelowZero notBothZero lengthsNo entriesNo profileNo speedNo slope slopesNo leg legTime timeAt timesFinite startNo timesNo intervalOf pieceOf inverse2order stationInside pieceAt stationIn isBefore isInside isPast stationAt countsOf timedNo samplesNo listNo lastOf gridSize gridTime finalAdded evenNo gridNo gridStation gridEntry gridEntries ofInt toUnsigned
 starred-hold =
     (refl, (refl, (refl, (refl, (refl, (refl, (refl, (refl, (refl, (record { answer = refl; left = refl }, (record { answer = refl; left = refl }, (record { answer = refl; left = refl }, (record { answer = refl; left = refl }, tt)))))))))))))

@@ -1,19 +1,18 @@
-use Prim.Native.Nat.{ℕ, _+_, _-_, _/_, _≤_, min}
+use Prim.Native.Nat.{ℕ, zero, suc, _+_, _-_, _/_, _≤_, min}
 use mathlib.Core.Path.{_≡_, refl}
 use mathlib.Core.Bool.{Bool, true, false, cond, _&&_}
 use mathlib.Core.List.{List}
 use native.Mathlib.Omega.{arith}
 use native.Mathlib.Nat.{le-trans, le-min}
-use borrow.Author.Tests.{leb-true}
 use lib.Dec.{leb}
 use lib.ListN.{length, take}
 use lib.Ieee.{Float}
 use Rattle.refusals.specs.Refusals.{unless, _or_}
 use Rattle.sampling.specs.Samples.{countsOf}
-use Rattle.sampling.specs.Grid.{gridTime, gridSize, finalAdded, gridStation, gridEntry, gridEntries, evenNo, gridNo, Gridded}
+use Rattle.sampling.specs.Grid.{gridTime, gridSize, finalAdded, evenNo, gridNo, gridStation, gridEntry, gridEntries, Gridded}
 use Rattle.sampling.specs.declared.samples.Counts.{Counts}
 use Rattle.sampling.specs.declared.samples.Sampled.{Sampled}
-use Rattle.sampling.proofs.Samplings.{gridded}
+use Rattle.sampling.proofs.Samplings.{sized, gridded}
 use Rattle.conversions.proofs.Replies.{room-within, room-fits, Aside, written-entries, counts}
 use borrow.Author.Needs.{needs}
 use Rattle.conversions.proofs.grid.stations.Statement.{statement}
@@ -23,17 +22,14 @@ one-at-most : (b : Bool) → cond b 1 0 ≤ 1
 one-at-most true = omega arith
 one-at-most false = omega arith
 
--- 28 comes before the room is asked for
-few-first : (n e room most : ℕ) → e ≤ 1 → min room 65537 ≤ most → unless (leb n 65536) 28 or unless (leb (n + e) (min room most)) 29 ≡ unless (leb n 65536) 28 or unless (leb (n + e) room) 29
-few-first n e room most h k = go (leb n 65536) refl
-  where
-    go : (b : Bool) → leb n 65536 ≡ b → unless b 28 or unless (leb (n + e) (min room most)) 29 ≡ unless b 28 or unless (leb (n + e) room) 29
-    go true f = let l = leb-true n 65536 f in rw (room-within (n + e) room most 65537 (omega arith) k)
-    go false f = refl
+-- 28 comes before the room is asked for: more samples than the limit are refused whatever the room
+few-first : (n e early room most : ℕ) → e ≤ 1 → min room 65537 ≤ most → (early ≡ 0 → n ≤ 65536) → early or unless (leb (n + e) (min room most)) 29 ≡ early or unless (leb (n + e) room) 29
+few-first n e zero room most h k few = let l = few refl in rw (room-within (n + e) room most 65537 (omega arith) k)
+few-first n e (suc early) room most h k few = refl
 
 same-room : (s a t : List Float) (t0 dt : Float) (final : Bool) (room most : ℕ) → min room 65537 ≤ most → gridNo s a t t0 dt final (min room most) ≡ gridNo s a t t0 dt final room
-unfolding gridNo evenNo
-same-room s a t t0 dt final room most h = rw (few-first (gridSize t t0 dt) (cond final 1 0) room most (one-at-most final) h)
+unfolding gridNo
+same-room s a t t0 dt final room most h = rw (few-first (gridSize t t0 dt) (cond final 1 0) (evenNo t t0 dt) room most (one-at-most final) h (sized t t0 dt))
 
 -- the final is asked for, or is not added
 added-at-most : (final added : Bool) → cond (final && added) 1 0 ≤ cond final 1 0

@@ -5,10 +5,11 @@ use native.Mathlib.Omega.{arith}
 use lib.ListN.{length}
 use lib.Ieee.{Float}
 use Rattle.interpolation.specs.Times.{startNo, timesNo}
+use Rattle.profile.proofs.Profiles.{lengths-pass}
 use Rattle.refusals.proofs.Outcomes.{or-stop}
 use Rattle.byte_lists.specs.Bytes.{doublesOf}
-use Rattle.conversions.specs.Stations.{lengthsNo}
-use Rattle.conversions.proofs.Replies.{lengths-pass, lengths-stop, ten-replied, ten-refused, ten-next, declines}
+use Rattle.profile.specs.Profile.{lengthsNo}
+use Rattle.conversions.proofs.Replies.{lengths-stop, ten-replied, ten-refused, ten-next, declines}
 use borrow.Author.Needs.{needs}
 use Rattle.conversions.proofs.times.s_to_t.Statement.{statement}
 use Rattle.conversions.proofs.times.s_to_t.Tie as tie
@@ -22,12 +23,13 @@ shape-refused s a t0 room m e h = or-stop m _ _ (or-stop m _ _ (lengths-stop s a
 in-eights-requires : tie.Need-in-eights-requires
 in-eights-requires c κs = search needs
 
-lengths-requires : tie.Need-lengths-requires
-lengths-requires c κs = search needs
+check-lengths-requires : tie.Need-check-lengths-requires
+check-lengths-requires c κs = search needs
 
 decoded-requires : tie.Need-decoded-requires
 decoded-requires c κs =
-    lengths-pass _ _ (sym (c .before .before .lengths .ensures) ∙ c .before .if2 .taken)
+    let p = lengths-pass _ _ (sym (c .before .before .check-lengths .ensures) ∙ c .before .if2 .taken) in
+    (p .high, omega arith)
 
 same-length : tie.Need-same-length
 same-length c = search needs
@@ -43,7 +45,7 @@ returns-2 c =
     let t = c .before .before in
     let a = t .before .before .before .before .before .args in
     declines
-    (ten-next _ _ _ (sym (t .before .in-eights .ensures) ∙ t .if1 .taken) (shape-refused (a .s .now) (a .a .now) _ _ _ (c .before .lengths .ensures) (c .if2 .left)))
+    (ten-next _ _ _ (sym (t .before .in-eights .ensures) ∙ t .if1 .taken) (shape-refused (a .s .now) (a .a .now) _ _ _ (c .before .check-lengths .ensures) (c .if2 .left)))
     (c .if2 .left)
 
 returns-3 : tie.Need-returns-3
@@ -54,7 +56,7 @@ s-to-t-spec =
     tie.close
     (tie.spec
     in-eights-requires
-    lengths-requires
+    check-lengths-requires
     decoded-requires
     same-length
     returns

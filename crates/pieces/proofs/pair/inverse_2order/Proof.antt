@@ -1,15 +1,14 @@
--- `sampling::interval::inverse_2order` meets its contract. Assumes nothing.
+-- `pieces::pair::inverse_2order` meets its contract. Assumes nothing.
 use borrow.Author.Needs.{needs}
-use lib.Ieee.{ofBits}
-use Rattle.sampling.specs.Samples.{inverse2order}
-use Rattle.sampling.proofs.interval.inverse_2order.Statement.{statement}
-use Rattle.sampling.proofs.interval.inverse_2order.Tie as tie
+use Rattle.pieces.specs.Pieces.{inverse2order}
+use Rattle.pieces.proofs.pair.inverse_2order.Statement.{statement}
+use Rattle.pieces.proofs.pair.inverse_2order.Tie as tie
 
 fma-requires : tie.Need-fma-requires
 fma-requires c κs = search needs
 
 returns : tie.Need-returns
-unfolding inverse2order ofBits
+unfolding inverse2order
 returns c = rw (c .fma .ensures)
 
 pub inverse-2order-spec : {M : Type 1} → statement M

@@ -1,8 +1,9 @@
--- `interpolation::checks::entries` meets its contract. Assumes nothing.
+-- `profile::checks::check_entries` meets its contract. Assumes nothing.
 use borrow.Author.Needs.{needs}
 use Rattle.refusals.proofs.Chains.{tested, chained}
-use Rattle.interpolation.proofs.checks.entries.Statement.{statement}
-use Rattle.interpolation.proofs.checks.entries.Tie as tie
+use Rattle.profile.specs.Profile.{entriesNo}
+use Rattle.profile.proofs.checks.check_entries.Statement.{statement}
+use Rattle.profile.proofs.checks.check_entries.Tie as tie
 
 every-pair-requires : tie.Need-every-pair-requires
 every-pair-requires c κs = search needs
@@ -29,14 +30,15 @@ or-requires-2 : tie.Need-or-requires-2
 or-requires-2 c κs = search needs
 
 returns : tie.Need-returns
+unfolding entriesNo
 returns c =
     let p = c .before .before in
     let q = p .before .before .before in
     chained 13 (c .or2 .ensures) (c .before .unless3 .ensures) (p .every-entry2 .ensures)
     (chained 14 (p .before .or .ensures) (p .before .before .unless2 .ensures) (q .every-entry .ensures) (tested 15 (q .before .unless .ensures) (q .before .before .every-pair .ensures)))
 
-pub entries-spec : {M : Type 1} → statement M
-entries-spec =
+pub check-entries-spec : {M : Type 1} → statement M
+check-entries-spec =
     tie.close
     (tie.spec
     every-pair-requires

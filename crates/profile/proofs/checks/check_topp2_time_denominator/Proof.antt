@@ -1,9 +1,9 @@
--- `interpolation::checks::check_topp2_time_denominator` meets its contract. Assumes nothing.
+-- `profile::checks::check_topp2_time_denominator` meets its contract. Assumes nothing.
 use borrow.Author.Needs.{needs}
 use Rattle.refusals.proofs.Chains.{tested, chained}
-use Rattle.interpolation.specs.Profile.{speedNo}
-use Rattle.interpolation.proofs.checks.check_topp2_time_denominator.Statement.{statement}
-use Rattle.interpolation.proofs.checks.check_topp2_time_denominator.Tie as tie
+use Rattle.profile.specs.Profile.{speedNo}
+use Rattle.profile.proofs.checks.check_topp2_time_denominator.Statement.{statement}
+use Rattle.profile.proofs.checks.check_topp2_time_denominator.Tie as tie
 
 every-pair-requires : tie.Need-every-pair-requires
 every-pair-requires c κs = search needs

@@ -1,9 +1,8 @@
--- `interpolation::checks::entry_passes` meets its contract. Assumes nothing.
+-- `profile::checks::entry_passes` meets its contract. Assumes nothing.
 use borrow.Author.Needs.{needs}
-use lib.Ieee.{ofBits}
-use Rattle.interpolation.specs.Profile.{notBelowZero}
-use Rattle.interpolation.proofs.checks.entry_passes.Statement.{statement}
-use Rattle.interpolation.proofs.checks.entry_passes.Tie as tie
+use Rattle.profile.specs.Profile.{notBelowZero}
+use Rattle.profile.proofs.checks.entry_passes.Statement.{statement}
+use Rattle.profile.proofs.checks.entry_passes.Tie as tie
 
 enum-told : tie.Need-enum-told
 enum-told c = search needs
@@ -18,7 +17,7 @@ returns : tie.Need-returns
 returns c = search needs
 
 returns-2 : tie.Need-returns-2
-unfolding notBelowZero ofBits
+unfolding notBelowZero
 returns-2 c = rw (c .enum-told2 .given .1)
 
 pub entry-passes-spec : {M : Type 1} → statement M

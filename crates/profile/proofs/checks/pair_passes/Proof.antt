@@ -1,9 +1,8 @@
--- `interpolation::checks::pair_passes` meets its contract. Assumes nothing.
+-- `profile::checks::pair_passes` meets its contract. Assumes nothing.
 use borrow.Author.Needs.{needs}
-use lib.Ieee.{ofBits}
-use Rattle.interpolation.specs.Profile.{notBothZero}
-use Rattle.interpolation.proofs.checks.pair_passes.Statement.{statement}
-use Rattle.interpolation.proofs.checks.pair_passes.Tie as tie
+use Rattle.profile.specs.Profile.{notBothZero}
+use Rattle.profile.proofs.checks.pair_passes.Statement.{statement}
+use Rattle.profile.proofs.checks.pair_passes.Tie as tie
 
 enum-told : tie.Need-enum-told
 enum-told c = search needs
@@ -15,11 +14,11 @@ returns : tie.Need-returns
 returns c = rw (c .enum-told .given .1)
 
 returns-2 : tie.Need-returns-2
-unfolding notBothZero ofBits
+unfolding notBothZero
 returns-2 c = rw (c .before .enum-told2 .given .1, c .if1 .taken)
 
 returns-3 : tie.Need-returns-3
-unfolding notBothZero ofBits
+unfolding notBothZero
 returns-3 c = rw (c .before .enum-told2 .given .1, c .if1 .left)
 
 pub pair-passes-spec : {M : Type 1} → statement M

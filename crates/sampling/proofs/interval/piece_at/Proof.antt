@@ -1,84 +1,67 @@
 -- `sampling::interval::piece_at` meets its contract. Assumes nothing.
 use borrow.Author.Needs.{needs}
-use Rattle.sampling.specs.Parts.{pieceAt}
-use Rattle.sampling.specs.Samples.{c1At}
+use Rattle.pieces.specs.Pieces.{pieceAt}
 use Rattle.sampling.proofs.interval.piece_at.Statement.{statement}
 use Rattle.sampling.proofs.interval.piece_at.Tie as tie
 
-mul-t5 : tie.Need-mul-t5
-mul-t5 c = search needs
+mul-piece-of : tie.Need-mul-piece-of
+mul-piece-of c = search needs
 
-shared-slice-read-t7 : tie.Need-shared-slice-read-t7
-shared-slice-read-t7 c = search needs
+shared-slice-read-piece-of : tie.Need-shared-slice-read-piece-of
+shared-slice-read-piece-of c = search needs
 
-mul-t8 : tie.Need-mul-t8
-mul-t8 c = search needs
+add-piece-of : tie.Need-add-piece-of
+add-piece-of c = search needs
 
-shared-slice-read-t10 : tie.Need-shared-slice-read-t10
-shared-slice-read-t10 c = search needs
+mul-piece-of-2 : tie.Need-mul-piece-of-2
+mul-piece-of-2 c = search needs
 
-mul-sqrt : tie.Need-mul-sqrt
-mul-sqrt c = search needs
+shared-slice-read-piece-of-2 : tie.Need-shared-slice-read-piece-of-2
+shared-slice-read-piece-of-2 c = search needs
 
-shared-slice-read-sqrt : tie.Need-shared-slice-read-sqrt
-shared-slice-read-sqrt c = search needs
+mul-piece-of-3 : tie.Need-mul-piece-of-3
+mul-piece-of-3 c = search needs
 
-sqrt-requires : tie.Need-sqrt-requires
-sqrt-requires c κs = search needs
+shared-slice-read-piece-of-3 : tie.Need-shared-slice-read-piece-of-3
+shared-slice-read-piece-of-3 c = search needs
 
-add-t15 : tie.Need-add-t15
-add-t15 c = search needs
+add-piece-of-2 : tie.Need-add-piece-of-2
+add-piece-of-2 c = search needs
 
-mul-t16 : tie.Need-mul-t16
-mul-t16 c = search needs
+mul-piece-of-4 : tie.Need-mul-piece-of-4
+mul-piece-of-4 c = search needs
 
-shared-slice-read-t18 : tie.Need-shared-slice-read-t18
-shared-slice-read-t18 c = search needs
+shared-slice-read-piece-of-4 : tie.Need-shared-slice-read-piece-of-4
+shared-slice-read-piece-of-4 c = search needs
 
-mul-t19 : tie.Need-mul-t19
-mul-t19 c = search needs
+mul-piece-of-5 : tie.Need-mul-piece-of-5
+mul-piece-of-5 c = search needs
 
-shared-slice-read-t21 : tie.Need-shared-slice-read-t21
-shared-slice-read-t21 c = search needs
+shared-slice-read-piece-of-5 : tie.Need-shared-slice-read-piece-of-5
+shared-slice-read-piece-of-5 c = search needs
 
-add-t23 : tie.Need-add-t23
-add-t23 c = search needs
-
-mul-t24 : tie.Need-mul-t24
-mul-t24 c = search needs
-
-shared-slice-read-t26 : tie.Need-shared-slice-read-t26
-shared-slice-read-t26 c = search needs
-
-mul-t27 : tie.Need-mul-t27
-mul-t27 c = search needs
-
-shared-slice-read-t29 : tie.Need-shared-slice-read-t29
-shared-slice-read-t29 c = search needs
+piece-of-requires : tie.Need-piece-of-requires
+piece-of-requires c κs = search needs
 
 returns : tie.Need-returns
-unfolding pieceAt c1At
-returns c = rw (← c .before .before .before .before .sqrt .ensures)
+unfolding pieceAt
+returns c = c .piece-of .ensures
 
 pub piece-at-spec : {M : Type 1} → statement M
 piece-at-spec =
     tie.close
     (tie.spec
-    mul-t5
-    shared-slice-read-t7
-    mul-t8
-    shared-slice-read-t10
-    mul-sqrt
-    shared-slice-read-sqrt
-    sqrt-requires
-    add-t15
-    mul-t16
-    shared-slice-read-t18
-    mul-t19
-    shared-slice-read-t21
-    add-t23
-    mul-t24
-    shared-slice-read-t26
-    mul-t27
-    shared-slice-read-t29
+    mul-piece-of
+    shared-slice-read-piece-of
+    add-piece-of
+    mul-piece-of-2
+    shared-slice-read-piece-of-2
+    mul-piece-of-3
+    shared-slice-read-piece-of-3
+    add-piece-of-2
+    mul-piece-of-4
+    shared-slice-read-piece-of-4
+    mul-piece-of-5
+    shared-slice-read-piece-of-5
+    piece-of-requires
     returns)

@@ -9,7 +9,7 @@ use lib.ListN.{length, length-set}
 use Rattle.loops.specs.Upto.{filled}
 use Rattle.loops.proofs.Filling.{fill-turn}
 use Rattle.sampling.specs.Samples.{isInside, stationAt}
-use Rattle.sampling.specs.Parts.{timeOf}
+use Rattle.sampling.specs.Following.{timeOf}
 use Rattle.sampling.proofs.Walks.{reaches-less, inside-within, same-interval, stays-inside, station-held, inside-more}
 use Rattle.sampling.proofs.samples.follow.Statement.{statement}
 use Rattle.sampling.proofs.samples.follow.Tie as tie

@@ -1,7 +1,7 @@
 -- `sampling::samples::more_inside` meets its contract. Assumes nothing.
 use mathlib.Core.Path.{refl}
 use borrow.Author.Needs.{needs}
-use Rattle.sampling.specs.Parts.{moreInside}
+use Rattle.sampling.specs.Following.{moreInside}
 use Rattle.sampling.proofs.samples.more_inside.Statement.{statement}
 use Rattle.sampling.proofs.samples.more_inside.Tie as tie
 

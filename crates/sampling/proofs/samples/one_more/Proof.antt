@@ -1,7 +1,7 @@
 -- `sampling::samples::one_more` meets its contract. Assumes nothing.
 use mathlib.Core.Path.{refl}
 use borrow.Author.Needs.{needs}
-use Rattle.sampling.specs.Parts.{oneMore}
+use Rattle.sampling.specs.Following.{oneMore}
 use Rattle.sampling.proofs.samples.one_more.Statement.{statement}
 use Rattle.sampling.proofs.samples.one_more.Tie as tie
 

@@ -6,15 +6,16 @@ use borrow.Author.Needs.{needs}
 use lib.ListN.{length, length-set}
 use Rattle.loops.specs.Upto.{filled, at}
 use Rattle.loops.proofs.Filling.{length-filled, fill-none, fill-turn, fill-on, fill-stands}
+use Rattle.refusals.specs.Most.{mostSamples}
 use Rattle.sampling.specs.Samples.{stationAt, countsOf}
-use Rattle.sampling.specs.Parts.{timeOf, Standing}
+use Rattle.sampling.specs.Following.{timeOf, Standing}
 use Rattle.sampling.proofs.Walks.{reaches-less, counts-none, counts-turn, counts-up-to, counts-written, counts-bounded}
 use Rattle.sampling.proofs.samples.t_to_s_topp2_core.Statement.{statement}
 use Rattle.sampling.proofs.samples.t_to_s_topp2_core.Tie as tie
 
 abbrev Inv-loop : tie.InvT-loop
 Inv-loop s a t source x n out₀ c₀ w₀ j₀ out c w j =
-    (j ≤ n) × (n ≤ 65536) × (n ≤ length out) × Standing s a t w × (c ≡ countsOf t (timeOf source x) j j) × (length out ≡ length out₀)
+    (j ≤ n) × (n ≤ mostSamples) × (n ≤ length out) × Standing s a t w × (c ≡ countsOf t (timeOf source x) j j) × (length out ≡ length out₀)
     × (out ≡ filled (λ m. stationAt s a t (timeOf source x m)) j out₀)
 
 abbrev μ-loop : tie.MeasureT-loop

@@ -1,7 +1,7 @@
 -- `sampling::samples::tally` meets its contract. Assumes nothing.
 use borrow.Author.Needs.{needs}
 use Rattle.sampling.specs.Samples.{isPast}
-use Rattle.sampling.specs.Parts.{tallied}
+use Rattle.sampling.specs.Following.{tallied}
 use Rattle.sampling.proofs.samples.tally.Statement.{statement}
 use Rattle.sampling.proofs.samples.tally.Tie as tie
 
