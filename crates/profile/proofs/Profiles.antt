@@ -39,6 +39,6 @@ unfolding profileNo
 shaped s a h = lengths-pass (length s) (length a) (or-none (lengthsNo (length s) (length a)) (entriesNo s a) h .0)
 
 -- 11 and 12 come first
-pub lengths-stop : (s a : List Float) (number : ℕ) → number ≡ lengthsNo (length s) (length a) → (number ≡ 0 → ⊥) → number ≡ profileNo s a
+pub lengths-stop : (s a : List Float) (n m number : ℕ) → length s ≡ n → length a ≡ m → number ≡ lengthsNo n m → (number ≡ 0 → ⊥) → number ≡ profileNo s a
 unfolding profileNo
-lengths-stop s a number e h = or-stop number (lengthsNo (length s) (length a)) (entriesNo s a) e h
+lengths-stop s a n m number p q e h = or-stop number (lengthsNo (length s) (length a)) (entriesNo s a) (rw (p, q) e) h

@@ -4,11 +4,13 @@ use mathlib.Core.List.{List}
 use native.Mathlib.Omega.{arith}
 use lib.ListN.{length}
 use Rattle.interpolation.specs.Slopes.{slopesNo}
-use Rattle.profile.proofs.Profiles.{lengths-pass}
+use Rattle.profile.proofs.Profiles.{lengths-pass, lengths-stop}
 use Rattle.refusals.proofs.Outcomes.{or-stop}
 use Rattle.byte_lists.specs.Bytes.{doublesOf}
 use Rattle.profile.specs.Profile.{lengthsNo}
-use Rattle.conversions.proofs.Replies.{lengths-stop, ten-replied, ten-refused, ten-next, declines}
+use Rattle.byte_lists.proofs.Fronts.{length-doubles}
+use Rattle.byte_lists.proofs.Tens.{ten-next, ten-refused}
+use Rattle.conversions.proofs.Replies.{declines, ten-replied}
 use borrow.Author.Needs.{needs}
 use Rattle.conversions.proofs.slopes.a_to_b.Statement.{statement}
 use Rattle.conversions.proofs.slopes.a_to_b.Tie as tie
@@ -16,7 +18,7 @@ use Rattle.conversions.proofs.slopes.a_to_b.Tie as tie
 -- 11 and 12 come first
 shape-refused : (s a : List ℕ) (room m : ℕ) → m ≡ lengthsNo (length s / 8) (length a / 8) → (m ≡ 0 → ⊥) → m ≡ slopesNo (doublesOf s) (doublesOf a) room
 unfolding slopesNo
-shape-refused s a room m e h = or-stop m _ _ (lengths-stop s a m e h) h
+shape-refused s a room m e h = or-stop m _ _ (lengths-stop (doublesOf s) (doublesOf a) _ _ m (length-doubles s) (length-doubles a) e h) h
 
 in-eights-requires : tie.Need-in-eights-requires
 in-eights-requires c κs = search needs

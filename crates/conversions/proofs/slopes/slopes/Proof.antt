@@ -10,8 +10,9 @@ use Rattle.interpolation.specs.Slopes.{slope, slopesNo, Slopes}
 use Rattle.interpolation.specs.declared.slopes.Sloped.{Sloped}
 use Rattle.interpolation.specs.declared.slopes.Sloped.the-variants.{Done, Refused}
 use Rattle.profile.proofs.Profiles.{Shaped, shaped}
-use Rattle.conversions.specs.Stations.{slopedNumber}
-use Rattle.conversions.proofs.Replies.{answer-number, room-same, room-fits, Aside, told, writes, replies, declines}
+use Rattle.conversions.specs.Replies.{slopedNumber}
+use Rattle.byte_lists.proofs.Aside.{room-same, room-fits, Aside, told, writes}
+use Rattle.conversions.proofs.Replies.{answer-number, replies, declines}
 use borrow.Author.Needs.{needs}
 use Rattle.conversions.proofs.slopes.slopes.Statement.{statement}
 use Rattle.conversions.proofs.slopes.slopes.Tie as tie

@@ -5,11 +5,13 @@ use native.Mathlib.Omega.{arith}
 use lib.ListN.{length}
 use lib.Ieee.{Float}
 use Rattle.interpolation.specs.Times.{startNo, timesNo}
-use Rattle.profile.proofs.Profiles.{lengths-pass}
+use Rattle.profile.proofs.Profiles.{lengths-pass, lengths-stop}
 use Rattle.refusals.proofs.Outcomes.{or-stop}
 use Rattle.byte_lists.specs.Bytes.{doublesOf}
 use Rattle.profile.specs.Profile.{lengthsNo}
-use Rattle.conversions.proofs.Replies.{lengths-stop, ten-replied, ten-refused, ten-next, declines}
+use Rattle.byte_lists.proofs.Fronts.{length-doubles}
+use Rattle.byte_lists.proofs.Tens.{ten-next, ten-refused}
+use Rattle.conversions.proofs.Replies.{declines, ten-replied}
 use borrow.Author.Needs.{needs}
 use Rattle.conversions.proofs.times.s_to_t.Statement.{statement}
 use Rattle.conversions.proofs.times.s_to_t.Tie as tie
@@ -18,7 +20,7 @@ use Rattle.conversions.proofs.times.s_to_t.Tie as tie
 shape-refused : (s a : List ℕ) (t0 : Float) (room m : ℕ) → m ≡ lengthsNo (length s / 8) (length a / 8) → (m ≡ 0 → ⊥)
     → m ≡ timesNo (doublesOf s) (doublesOf a) t0 room
 unfolding timesNo startNo
-shape-refused s a t0 room m e h = or-stop m _ _ (or-stop m _ _ (lengths-stop s a m e h) h) h
+shape-refused s a t0 room m e h = or-stop m _ _ (or-stop m _ _ (lengths-stop (doublesOf s) (doublesOf a) _ _ m (length-doubles s) (length-doubles a) e h) h) h
 
 in-eights-requires : tie.Need-in-eights-requires
 in-eights-requires c κs = search needs

@@ -1,0 +1,4 @@
+// t to s over byte lists: document 01's operations as the C entries give them, 10 before all others. A list over its limit is refused without being decoded.
+pub mod grid;
+pub mod list;
+mod samples;
