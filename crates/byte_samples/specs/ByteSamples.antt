@@ -1,15 +1,16 @@
--- What t to s answers and leaves on byte lists: the plain operations on the doubles of the lists, 10 before all others.
+-- What t to s for a sample list answers and leaves on byte lists: the plain operations on the doubles of the lists, 10 before all others.
 use Prim.Native.Nat.{ℕ, _*_, _/_}
-use mathlib.Core.Bool.{Bool, _&&_}
+use mathlib.Core.Bool.{_&&_}
 use mathlib.Core.List.{List}
+use lib.Dec.{eqb}
 use lib.ListN.{length}
 use lib.Ieee.{Float}
 use Rattle.loops.specs.Upto.{at}
 use Rattle.refusals.specs.Refusals.{unless, _or_}
 use Rattle.refusals.specs.Outcome.{Outcome}
+use Rattle.profile.specs.Profile.{lengthsNo}
 use Rattle.sampling.specs.Samples.{stationAt, countsOf}
 use Rattle.sampling.specs.List.{listNo}
-use Rattle.sampling.specs.Grid.{gridTime, gridSize, gridNo, gridEntry, gridEntries}
 use Rattle.sampling.specs.declared.samples.Counts.{Counts}
 use Rattle.sampling.specs.declared.samples.Sampled.{Sampled}
 use Rattle.sampling.specs.declared.samples.Sampled.the-variants.{Done, Refused}
@@ -19,6 +20,10 @@ use Rattle.byte_lists.specs.Bytes.{inEights, doublesOf, byteOf}
 abbrev pub entriesOf : Sampled → ℕ
 entriesOf (Done c) = c .written
 entriesOf (Refused k) = 0
+
+-- 11, 12 and 20, of n stations, m speeds and k times
+unfoldable pub countsNo : ℕ → ℕ → ℕ → ℕ
+countsNo n m k = lengthsNo n m or unless (eqb k n) 20
 
 -- ---- a sample list: stations s, squared speeds a, times t, samples x
 abbrev pub listCounts : List Float → List Float → Counts
@@ -46,28 +51,3 @@ WholeListed s a t x old = ListReplied (listWholeNo s a t x old) (doublesOf s) (d
 
 abbrev pub ByteListed : List ℕ → List ℕ → List ℕ → List ℕ → List ℕ → Sampled → List ℕ → Type 0
 ByteListed s a t x old = ListReplied (listByteNo s a t x old) (doublesOf s) (doublesOf a) (doublesOf t) (doublesOf x) old
-
--- ---- an even grid
-abbrev pub gridCounts : List Float → List Float → List Float → Float → Float → Bool → Counts
-gridCounts s a t t0 dt final = countsOf t (gridTime t0 dt) (gridSize t t0 dt) (gridEntries s a t t0 dt final)
-
--- what a call with this refusal number answers, and the bytes that it leaves
-abbrev pub GridReplied : ℕ → List Float → List Float → List Float → Float → Float → Bool → List ℕ → Sampled → List ℕ → Type 0
-GridReplied number s a t t0 dt final =
-    Outcome (Done (gridCounts s a t t0 dt final)) Refused number (byteOf (gridEntry s a t t0 dt)) (8 * gridEntries s a t t0 dt final)
-
--- 11 to 15, 17, 18, 20 to 22, 16, 23, 24, 28, 29, of lists of whole doubles
-abbrev pub gridWholeNo : List ℕ → List ℕ → List ℕ → Float → Float → Bool → List ℕ → ℕ
-gridWholeNo s a t t0 dt final out = gridNo (doublesOf s) (doublesOf a) (doublesOf t) t0 dt final (length out / 8)
-
--- 10, then these
-abbrev pub gridByteNo : List ℕ → List ℕ → List ℕ → Float → Float → Bool → List ℕ → ℕ
-gridByteNo s a t t0 dt final out =
-    unless ((inEights s && (inEights a && inEights out)) && inEights t) 10
-    or gridWholeNo s a t t0 dt final out
-
-abbrev pub WholeGridded : List ℕ → List ℕ → List ℕ → Float → Float → Bool → List ℕ → Sampled → List ℕ → Type 0
-WholeGridded s a t t0 dt final old = GridReplied (gridWholeNo s a t t0 dt final old) (doublesOf s) (doublesOf a) (doublesOf t) t0 dt final old
-
-abbrev pub ByteGridded : List ℕ → List ℕ → List ℕ → Float → Float → Bool → List ℕ → Sampled → List ℕ → Type 0
-ByteGridded s a t t0 dt final old = GridReplied (gridByteNo s a t t0 dt final old) (doublesOf s) (doublesOf a) (doublesOf t) t0 dt final old

@@ -1,4 +1,4 @@
-// t to s over byte lists: document 01's operations as the C entries give them, 10 before all others. A list over its limit is refused without being decoded.
-pub mod grid;
+// t to s for a sample list over byte lists: document 01's operation as the C entry gives it, 10 before all others. A list over its limit is refused without being
+// decoded. What the even grid refuses likewise is here too.
 pub mod list;
-mod samples;
+pub mod samples;

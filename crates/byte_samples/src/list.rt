@@ -1,7 +1,6 @@
 // t to s for a sample list, on byte lists.
 use crate::samples;
 use byte_lists::doubles;
-use profile::checks;
 use refusals::most;
 use sampling::list::t_to_s_topp2_list;
 use sampling::samples::Sampled;
@@ -74,7 +73,7 @@ fn with_many(s: &[u8], a: &[u8], t: &[u8], x: &[u8], out: &mut [u8]) -> Sampled
 
 // The profile and its times are in their limits. Samples over theirs are not decoded: 28, but where the profile or its times are refused before.
 fn with_times(s: &[u8], a: &[u8], t: &[u8], x: &[u8], out: &mut [u8]) -> Sampled
-    requires { ⌜ (length (now s) / 8 ≤ mostStations) × (length (now a) / 8 ≤ mostStations) × (2 ≤ length (now s) / 8) × (length (now t) / 8 ≤ mostStations) ⌝ }
+    requires { ⌜ (length (now s) / 8 ≤ mostStations) × (length (now a) / 8 ≤ mostStations) × (length (now t) / 8 ≤ mostStations) ⌝ }
     ensures { λ r. ⌜ WholeListed (now (s .entry)) (now (a .entry)) (now (t .entry)) (now (x .entry)) (now (out .entry)) r (now (out .exit)) ⌝ }
 {
     if x.len() / 8 <= 1024 {
@@ -90,11 +89,12 @@ fn with_times(s: &[u8], a: &[u8], t: &[u8], x: &[u8], out: &mut [u8]) -> Sampled
     Sampled::Refused(number)
 }
 
-fn with_profile(s: &[u8], a: &[u8], t: &[u8], x: &[u8], out: &mut [u8]) -> Sampled
-    requires { ⌜ (length (now s) / 8 ≤ mostStations) × (length (now a) / 8 ≤ mostStations) × (2 ≤ length (now s) / 8) ⌝ }
+// Numbers of stations, speeds and times out of their limits are told before a list is decoded.
+fn whole(s: &[u8], a: &[u8], t: &[u8], x: &[u8], out: &mut [u8]) -> Sampled
     ensures { λ r. ⌜ WholeListed (now (s .entry)) (now (a .entry)) (now (t .entry)) (now (x .entry)) (now (out .entry)) r (now (out .exit)) ⌝ }
 {
-    if t.len() / 8 == s.len() / 8 {
+    let number = samples::check_counts(s.len() / 8, a.len() / 8, t.len() / 8);
+    if number == 0 {
         return with_times(s, a, t, x, out);
     }
     Sampled::Refused(samples::refusal(s, a, t))
@@ -106,11 +106,7 @@ pub fn t_to_s_list(s: &[u8], a: &[u8], t: &[u8], x: &[u8], out: &mut [u8]) -> Sa
 {
     if doubles::in_eights(s.len(), a.len(), out.len()) {
         if doubles::in_eights(t.len(), x.len(), out.len()) {
-            let number = checks::check_lengths(s.len() / 8, a.len() / 8);
-            if number == 0 {
-                return with_profile(s, a, t, x, out);
-            }
-            return Sampled::Refused(number);
+            return whole(s, a, t, x, out);
         }
     }
     Sampled::Refused(10)

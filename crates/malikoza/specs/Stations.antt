@@ -14,7 +14,8 @@ use Rattle.sampling.specs.declared.samples.Sampled.{Sampled}
 use Rattle.sampling.specs.declared.samples.Sampled.the-variants.{Done, Refused}
 use Rattle.sampling.specs.Grid.{gridEntry, gridEntries}
 use Rattle.byte_lists.specs.Bytes.{doublesOf, byteOf}
-use Rattle.byte_samples.specs.ByteSamples.{listCounts, listStation, listByteNo, gridCounts, gridByteNo}
+use Rattle.byte_samples.specs.ByteSamples.{listCounts, listStation, listByteNo}
+use Rattle.byte_grids.specs.ByteGrids.{gridCounts, gridByteNo}
 
 -- 01's number and values for each case of the answer: a refusal leaves what there was
 abbrev pub sampledNumber : Sampled → ℕ

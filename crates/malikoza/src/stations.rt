@@ -1,5 +1,5 @@
 // Stations, speeds and times on byte lists. Each returns 0, or the refusal number; a refusal writes nothing.
-use byte_samples::grid::t_to_s_grid;
+use byte_grids::grid::t_to_s_grid;
 use byte_samples::list::t_to_s_list;
 use conversions::slopes::a_to_b;
 use conversions::times::s_to_t;

@@ -1,7 +1,7 @@
 use Rattle.byte_lists.proofs.Fronts.{front-is, front-count}
 use borrow.Author.Needs.{needs}
-use Rattle.byte_samples.proofs.grid.decoded.Statement.{statement}
-use Rattle.byte_samples.proofs.grid.decoded.Tie as tie
+use Rattle.byte_grids.proofs.grid.decoded.Statement.{statement}
+use Rattle.byte_grids.proofs.grid.decoded.Tie as tie
 
 slice-aggregate-decode : tie.Need-slice-aggregate-decode
 slice-aggregate-decode c = search needs

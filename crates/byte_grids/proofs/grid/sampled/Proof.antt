@@ -13,11 +13,11 @@ use Rattle.sampling.specs.Grid.{gridSize, finalAdded, evenNo, gridNo, gridStati
 use Rattle.sampling.specs.declared.samples.Sampled.{Sampled}
 use Rattle.sampling.proofs.Samplings.{sized, gridded}
 use Rattle.byte_lists.proofs.Aside.{room-within, room-fits, Aside}
-use Rattle.byte_samples.specs.ByteSamples.{gridCounts}
+use Rattle.byte_grids.specs.ByteGrids.{gridCounts}
 use Rattle.byte_samples.proofs.Written.{written-entries, counts}
 use borrow.Author.Needs.{needs}
-use Rattle.byte_samples.proofs.grid.sampled.Statement.{statement}
-use Rattle.byte_samples.proofs.grid.sampled.Tie as tie
+use Rattle.byte_grids.proofs.grid.sampled.Statement.{statement}
+use Rattle.byte_grids.proofs.grid.sampled.Tie as tie
 
 one-at-most : (b : Bool) → cond b 1 0 ≤ 1
 one-at-most true = omega arith

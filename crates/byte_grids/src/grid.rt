@@ -1,7 +1,6 @@
 // t to s on an even grid, on byte lists.
-use crate::samples;
 use byte_lists::doubles;
-use profile::checks;
+use byte_samples::samples;
 use refusals::most;
 use sampling::grid::t_to_s_topp2_grid;
 use sampling::samples::Sampled;
@@ -9,7 +8,7 @@ ghost use Prim.Native.Nat.{_+_, _/_, _≤_, min};
 ghost use lib.ListN.{length};
 ghost use Rattle.refusals.specs.Most.{mostStations, mostSamples};
 ghost use Rattle.sampling.specs.Grid.{gridNo};
-ghost use Rattle.byte_samples.specs.ByteSamples.{GridReplied, WholeGridded, ByteGridded};
+ghost use Rattle.byte_grids.specs.ByteGrids.{GridReplied, WholeGridded, ByteGridded};
 
 // Worked out aside, then written as bytes.
 fn sampled(
@@ -76,19 +75,12 @@ fn with_times(s: &[u8], a: &[u8], t: &[u8], t0: f64, dt: f64, end: bool, out: &m
     decoded(s, a, t, t0, dt, end, &mut aside, out)
 }
 
-fn with_profile(
-    s: &[u8],
-    a: &[u8],
-    t: &[u8],
-    t0: f64,
-    dt: f64,
-    end: bool,
-    out: &mut [u8],
-) -> Sampled
-    requires { ⌜ (length (now s) / 8 ≤ mostStations) × (length (now a) / 8 ≤ mostStations) × (2 ≤ length (now s) / 8) ⌝ }
+// Numbers of stations, speeds and times out of their limits are told before a list is decoded.
+fn whole(s: &[u8], a: &[u8], t: &[u8], t0: f64, dt: f64, end: bool, out: &mut [u8]) -> Sampled
     ensures { λ r. ⌜ WholeGridded (now (s .entry)) (now (a .entry)) (now (t .entry)) t0 dt end (now (out .entry)) r (now (out .exit)) ⌝ }
 {
-    if t.len() / 8 == s.len() / 8 {
+    let number = samples::check_counts(s.len() / 8, a.len() / 8, t.len() / 8);
+    if number == 0 {
         return with_times(s, a, t, t0, dt, end, out);
     }
     Sampled::Refused(samples::refusal(s, a, t))
@@ -108,11 +100,7 @@ pub fn t_to_s_grid(
 {
     if doubles::in_eights(s.len(), a.len(), out.len()) {
         if t.len() % 8 == 0 {
-            let number = checks::check_lengths(s.len() / 8, a.len() / 8);
-            if number == 0 {
-                return with_profile(s, a, t, t0, dt, end, out);
-            }
-            return Sampled::Refused(number);
+            return whole(s, a, t, t0, dt, end, out);
         }
     }
     Sampled::Refused(10)
