@@ -1,13 +1,13 @@
 // Stations, speeds and times: document 01's cases.
 use crate::tell::same;
 use crate::tell::tell;
+use following::pass::Counts;
 use interpolation::slopes::Sloped;
 use interpolation::slopes::a_to_b_topp2;
 use interpolation::times::Timed;
 use interpolation::times::s_to_t_topp2;
 use sampling::grid::t_to_s_topp2_grid;
 use sampling::list::t_to_s_topp2_list;
-use sampling::samples::Counts;
 use sampling::samples::Sampled;
 
 // s 0, 1, 3; a 0, 4, 4; t0 10: times 10, 11, 12

@@ -6,9 +6,9 @@ use lib.ListN.{length}
 use lib.Ieee.{Float}
 use Rattle.refusals.specs.Refusals.{unless, _or_}
 use Rattle.refusals.specs.Outcome.{Outcome}
-use Rattle.sampling.specs.Samples.{countsOf}
-use Rattle.sampling.specs.Grid.{gridTime, gridSize, gridNo, gridEntry, gridEntries}
-use Rattle.sampling.specs.declared.samples.Counts.{Counts}
+use Rattle.following.specs.Places.{countsOf, gridTime}
+use Rattle.sampling.specs.Grid.{gridSize, gridNo, gridEntry, gridEntries}
+use Rattle.following.specs.declared.pass.Counts.{Counts}
 use Rattle.sampling.specs.declared.samples.Sampled.{Sampled}
 use Rattle.sampling.specs.declared.samples.Sampled.the-variants.{Done, Refused}
 use Rattle.byte_lists.specs.Bytes.{inEights, doublesOf, byteOf}

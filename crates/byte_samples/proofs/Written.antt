@@ -11,8 +11,8 @@ use Rattle.loops.proofs.Filling.{fill-none}
 use Rattle.refusals.specs.Refusals.{onlyIf}
 use Rattle.refusals.specs.Outcome.{answered, Outcome}
 use Rattle.refusals.proofs.Chains.{only-done, only-kept}
-use Rattle.sampling.specs.Samples.{countsOf}
-use Rattle.sampling.specs.declared.samples.Counts.{Counts}
+use Rattle.following.specs.Places.{countsOf}
+use Rattle.following.specs.declared.pass.Counts.{Counts}
 use Rattle.sampling.specs.declared.samples.Sampled.{Sampled}
 use Rattle.sampling.specs.declared.samples.Sampled.the-variants.{Done, Refused}
 use Rattle.byte_lists.specs.Bytes.{byteOf}

@@ -9,9 +9,9 @@ use Rattle.loops.specs.Upto.{at}
 use Rattle.refusals.specs.Refusals.{unless, _or_}
 use Rattle.refusals.specs.Outcome.{Outcome}
 use Rattle.profile.specs.Profile.{lengthsNo}
-use Rattle.sampling.specs.Samples.{stationAt, countsOf}
+use Rattle.following.specs.Places.{stationAt, countsOf}
 use Rattle.sampling.specs.List.{listNo}
-use Rattle.sampling.specs.declared.samples.Counts.{Counts}
+use Rattle.following.specs.declared.pass.Counts.{Counts}
 use Rattle.sampling.specs.declared.samples.Sampled.{Sampled}
 use Rattle.sampling.specs.declared.samples.Sampled.the-variants.{Done, Refused}
 use Rattle.byte_lists.specs.Bytes.{inEights, doublesOf, byteOf}

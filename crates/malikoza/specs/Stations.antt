@@ -9,7 +9,7 @@ use lib.Ieee.{Float}
 use Rattle.loops.specs.Upto.{filled}
 use Rattle.refusals.specs.Refusals.{onlyIf}
 use Rattle.refusals.specs.Outcome.{answered}
-use Rattle.sampling.specs.declared.samples.Counts.{Counts}
+use Rattle.following.specs.declared.pass.Counts.{Counts}
 use Rattle.sampling.specs.declared.samples.Sampled.{Sampled}
 use Rattle.sampling.specs.declared.samples.Sampled.the-variants.{Done, Refused}
 use Rattle.sampling.specs.Grid.{gridEntry, gridEntries}

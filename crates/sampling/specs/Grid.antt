@@ -3,17 +3,17 @@ use Prim.Native.Nat.{ℕ, _+_, _-_}
 use mathlib.Core.List.{List}
 use mathlib.Core.Bool.{Bool, not, cond, _&&_}
 use lib.Dec.{leb, ltb, eqb}
-use lib.IntN.{pos}
 use lib.ListN.{length}
-use lib.Ieee.{Float, binary64, lt, le, ofInt}
+use lib.Ieee.{Float, lt, le}
 use lib.Ieee.Scale.{finite}
-use Rattle.number.specs.Doubles.{zero, _⊕_, _⊖_, _⊗_, _⊘_}
+use Rattle.number.specs.Doubles.{zero, _⊖_, _⊘_}
 use Rattle.number.specs.Leaves.{wholePart}
 use Rattle.loops.specs.Upto.{at}
 use Rattle.refusals.specs.Most.{mostSamples}
 use Rattle.refusals.specs.Refusals.{unless, _or_}
 use Rattle.refusals.specs.Outcome.{Outcome}
-use Rattle.sampling.specs.Samples.{stationAt, countsOf, timedNo}
+use Rattle.following.specs.Places.{stationAt, gridTime, countsOf}
+use Rattle.sampling.specs.Samples.{timedNo}
 use Rattle.sampling.specs.declared.samples.Sampled.{Sampled}
 use Rattle.sampling.specs.declared.samples.Sampled.the-variants.{Done, Refused}
 
@@ -23,10 +23,6 @@ lastOf x = at x (length x - 1)
 -- the whole part of (last time - t0)/dt
 unfoldable pub gridSize : List Float → Float → Float → ℕ
 gridSize t t0 dt = wholePart ((lastOf t ⊖ t0) ⊘ dt)
-
--- t0 + i·dt
-unfoldable pub gridTime : Float → Float → ℕ → Float
-gridTime t0 dt i = t0 ⊕ ofInt binary64 (pos i) ⊗ dt
 
 -- the rule for the final: if no sample was made, the last station is added when t0 ≤ last time; else it is added when the last entry is less than it
 unfoldable pub finalAdded : List Float → List Float → Float → ℕ → Float → Bool

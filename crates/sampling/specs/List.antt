@@ -10,7 +10,8 @@ use Rattle.refusals.specs.Most.{mostSamples}
 use Rattle.refusals.specs.Refusals.{unless, _or_}
 use Rattle.refusals.specs.Outcome.{Outcome}
 use Rattle.loops.specs.Entries.{everyEntry, everyPair}
-use Rattle.sampling.specs.Samples.{stationAt, countsOf, timedNo}
+use Rattle.following.specs.Places.{stationAt, countsOf}
+use Rattle.sampling.specs.Samples.{timedNo}
 use Rattle.sampling.specs.declared.samples.Sampled.{Sampled}
 use Rattle.sampling.specs.declared.samples.Sampled.the-variants.{Done, Refused}
 

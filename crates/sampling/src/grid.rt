@@ -1,8 +1,9 @@
 // t to s on an even grid, the Rust's UniformTimeGrid.
 use crate::samples;
-use crate::samples::Counts;
 use crate::samples::Sampled;
-use crate::samples::Source;
+use following::pass;
+use following::pass::Counts;
+use following::pass::Source;
 use number::size;
 use refusals::chain::or;
 use refusals::chain::unless;
@@ -14,9 +15,10 @@ ghost use lib.Dec.{leb};
 ghost use lib.ListN.{length};
 ghost use lib.Ieee.{le};
 ghost use Rattle.number.specs.Doubles.{zero};
+ghost use Rattle.refusals.specs.Most.{mostSamples};
 ghost use Rattle.loops.specs.Upto.{at};
 ghost use Rattle.sampling.specs.Grid.{lastOf, gridSize, finalAdded, evenNo, gridNo, Gridded};
-ghost use Rattle.sampling.specs.Following.{Bounded, Ended};
+ghost use Rattle.sampling.specs.Ending.{entryMore, Ended};
 
 fn last(x: &[f64]) -> f64
     requires { ⌜ 0 < length (now x) ⌝ }
@@ -85,16 +87,29 @@ fn final_added(s: &[f64], t: &[f64], t0: f64, n: usize, out: &[f64]) -> bool
     }
 }
 
+fn entry_more(c: Counts) -> Counts
+    requires { ⌜ c .written ≤ mostSamples ⌝ }
+    ensures { λ r. ⌜ r ≡ entryMore c ⌝ }
+{
+    let written = c.written + 1;
+    Counts {
+        before: c.before,
+        inside: c.inside,
+        past: c.past,
+        written: written,
+    }
+}
+
 // The last station after the first n entries, where it is asked for and due: an entry, but no time.
 fn finish(s: &[f64], t: &[f64], t0: f64, n: usize, end: bool, c: Counts, out: &mut [f64]) -> Counts
-    requires { ⌜ (0 < length (now s)) × (0 < length (now t)) × (n + cond end 1 0 ≤ length (now out)) × Bounded c ⌝ }
+    requires { ⌜ (0 < length (now s)) × (0 < length (now t)) × (n + cond end 1 0 ≤ length (now out)) × (c .written ≤ mostSamples) ⌝ }
     ensures { λ r. ⌜ Ended (end && finalAdded (now (s .entry)) (now (t .entry)) t0 n (at (now (out .entry)) (n - 1))) n (lastOf (now (s .entry))) c (now (out .entry)) r (now (out .exit)) ⌝ }
 {
     if end {
         if final_added(s, t, t0, n, out) {
             let v = last(s);
             out[n] = v;
-            return samples::one_more(c, 0, 0, 0);
+            return entry_more(c);
         }
     }
     c
@@ -115,7 +130,7 @@ pub fn t_to_s_topp2_grid(
     let number = refusal(s, a, t, t0, dt, end, out.len());
     if number == 0 {
         let n = size(t, t0, dt) as usize;
-        let c = samples::t_to_s_topp2_core(s, a, t, Source::Even(t0, dt), t, n, out);
+        let c = pass::t_to_s_topp2_core(s, a, t, Source::Even(t0, dt), t, n, out);
         return Sampled::Done(finish(s, t, t0, n, end, c, out));
     }
     Sampled::Refused(number)

@@ -1,7 +1,8 @@
 // t to s for a sample list, the Rust's NonUniformTimeGrid.
 use crate::samples;
 use crate::samples::Sampled;
-use crate::samples::Source;
+use following::pass;
+use following::pass::Source;
 use profile::checks;
 use refusals::chain::or;
 use refusals::chain::unless;
@@ -42,7 +43,7 @@ pub fn t_to_s_topp2_list(s: &[f64], a: &[f64], t: &[f64], x: &[f64], out: &mut [
     let number = refusal(s, a, t, x, out.len());
     if number == 0 {
         let n = x.len();
-        return Sampled::Done(samples::t_to_s_topp2_core(s, a, t, Source::Listed, x, n, out));
+        return Sampled::Done(pass::t_to_s_topp2_core(s, a, t, Source::Listed, x, n, out));
     }
     Sampled::Refused(number)
 }

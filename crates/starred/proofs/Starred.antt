@@ -20,9 +20,10 @@ use Rattle.profile.specs.Profile.{notBelowZero, notBothZero, lengthsNo, entries
 use Rattle.interpolation.specs.Slopes.{slope, slopesNo}
 use Rattle.interpolation.specs.Times.{leg, legTime, timeAt, timesFinite, startNo, timesNo}
 use Rattle.pieces.specs.Pieces.{pieceOf, inverse2order, stationInside, pieceAt, stationIn}
-use Rattle.sampling.specs.Samples.{intervalOf, isBefore, isInside, isPast, stationAt, countsOf, timedNo}
+use Rattle.following.specs.Places.{intervalOf, isBefore, isInside, isPast, stationAt, countsOf, gridTime}
+use Rattle.sampling.specs.Samples.{timedNo}
 use Rattle.sampling.specs.List.{samplesNo, listNo}
-use Rattle.sampling.specs.Grid.{lastOf, gridSize, gridTime, finalAdded, evenNo, gridNo, gridStation, gridEntry, gridEntries}
+use Rattle.sampling.specs.Grid.{lastOf, gridSize, finalAdded, evenNo, gridNo, gridStation, gridEntry, gridEntries}
 use Rattle.starred.specs.Cases.{AllHold, starred}
 
 pub starred-hold : AllHold starred

@@ -4,7 +4,7 @@ use native.Mathlib.Omega.{arith}
 use borrow.Author.Needs.{needs}
 use Rattle.sampling.specs.Grid.{gridNo}
 use Rattle.refusals.proofs.Outcomes.{or-stop, or-next}
-use Rattle.sampling.proofs.Walks.{timed}
+use Rattle.sampling.proofs.Samplings.{timed}
 use Rattle.sampling.proofs.grid.refusal.Statement.{statement}
 use Rattle.sampling.proofs.grid.refusal.Tie as tie
 
