@@ -1,6 +1,6 @@
 // t to s on an even grid, on byte lists.
+use byte_checks::samples;
 use byte_lists::doubles;
-use byte_samples::samples;
 use refusals::most;
 use sampling::grid::t_to_s_topp2_grid;
 use sampling::samples::Sampled;

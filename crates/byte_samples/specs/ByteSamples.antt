@@ -2,13 +2,11 @@
 use Prim.Native.Nat.{ℕ, _*_, _/_}
 use mathlib.Core.Bool.{_&&_}
 use mathlib.Core.List.{List}
-use lib.Dec.{eqb}
 use lib.ListN.{length}
 use lib.Ieee.{Float}
 use Rattle.loops.specs.Upto.{at}
 use Rattle.refusals.specs.Refusals.{unless, _or_}
 use Rattle.refusals.specs.Outcome.{Outcome}
-use Rattle.profile.specs.Profile.{lengthsNo}
 use Rattle.following.specs.Places.{stationAt, countsOf}
 use Rattle.sampling.specs.List.{listNo}
 use Rattle.following.specs.declared.pass.Counts.{Counts}
@@ -16,16 +14,7 @@ use Rattle.sampling.specs.declared.samples.Sampled.{Sampled}
 use Rattle.sampling.specs.declared.samples.Sampled.the-variants.{Done, Refused}
 use Rattle.byte_lists.specs.Bytes.{inEights, doublesOf, byteOf}
 
--- how many doubles an answer has for the output
-abbrev pub entriesOf : Sampled → ℕ
-entriesOf (Done c) = c .written
-entriesOf (Refused k) = 0
-
--- 11, 12 and 20, of n stations, m speeds and k times
-unfoldable pub countsNo : ℕ → ℕ → ℕ → ℕ
-countsNo n m k = lengthsNo n m or unless (eqb k n) 20
-
--- ---- a sample list: stations s, squared speeds a, times t, samples x
+-- stations s, squared speeds a, times t, samples x
 abbrev pub listCounts : List Float → List Float → Counts
 listCounts t x = countsOf t (at x) (length x) (length x)
 

@@ -1,5 +1,5 @@
 // t to s for a sample list, on byte lists.
-use crate::samples;
+use byte_checks::samples;
 use byte_lists::doubles;
 use refusals::most;
 use sampling::list::t_to_s_topp2_list;

@@ -14,7 +14,7 @@ use Rattle.sampling.specs.declared.samples.Sampled.{Sampled}
 use Rattle.sampling.proofs.Samplings.{sized, gridded}
 use Rattle.byte_lists.proofs.Aside.{room-within, room-fits, Aside}
 use Rattle.byte_grids.specs.ByteGrids.{gridCounts}
-use Rattle.byte_samples.proofs.Written.{written-entries, counts}
+use Rattle.byte_checks.proofs.Written.{written-entries, counts}
 use borrow.Author.Needs.{needs}
 use Rattle.byte_grids.proofs.grid.sampled.Statement.{statement}
 use Rattle.byte_grids.proofs.grid.sampled.Tie as tie

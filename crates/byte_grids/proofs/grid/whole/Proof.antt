@@ -9,7 +9,7 @@ use lib.Ieee.{Float}
 use Rattle.sampling.specs.Samples.{timedNo}
 use Rattle.sampling.specs.Grid.{gridNo}
 use Rattle.refusals.proofs.Outcomes.{or-stop, refuses}
-use Rattle.byte_samples.proofs.Early.{counts-pass, counts-refused}
+use Rattle.byte_checks.proofs.Early.{counts-pass, counts-refused}
 use Rattle.byte_grids.proofs.grid.whole.Statement.{statement}
 use Rattle.byte_grids.proofs.grid.whole.Tie as tie
 

@@ -8,7 +8,7 @@ use Rattle.sampling.specs.declared.samples.Sampled.{Sampled}
 use Rattle.sampling.proofs.Samplings.{listed}
 use Rattle.byte_lists.proofs.Aside.{room-same, room-fits, Aside}
 use Rattle.byte_samples.specs.ByteSamples.{listCounts, listStation}
-use Rattle.byte_samples.proofs.Written.{written-entries, counts}
+use Rattle.byte_checks.proofs.Written.{written-entries, counts}
 use borrow.Author.Needs.{needs}
 use Rattle.byte_samples.proofs.list.sampled.Statement.{statement}
 use Rattle.byte_samples.proofs.list.sampled.Tie as tie

@@ -3,7 +3,8 @@ use mathlib.Core.Path.{sym, _∙_}
 use native.Mathlib.Omega.{arith}
 use borrow.Author.Needs.{needs}
 use Rattle.refusals.proofs.Outcomes.{refuses}
-use Rattle.byte_samples.proofs.Early.{counts-pass, counts-refused, timed-listed}
+use Rattle.byte_checks.proofs.Early.{counts-pass, counts-refused}
+use Rattle.byte_samples.proofs.Refused.{timed-listed}
 use Rattle.byte_samples.proofs.list.whole.Statement.{statement}
 use Rattle.byte_samples.proofs.list.whole.Tie as tie
 

@@ -6,7 +6,7 @@ use Rattle.refusals.specs.Most.{mostSamples}
 use Rattle.refusals.proofs.Outcomes.{refuses}
 use Rattle.byte_lists.specs.Bytes.{doublesOf}
 use Rattle.byte_lists.proofs.Fronts.{length-doubles}
-use Rattle.byte_samples.proofs.Early.{timed-listed, many-listed}
+use Rattle.byte_samples.proofs.Refused.{timed-listed, many-listed}
 use borrow.Author.Needs.{needs}
 use Rattle.byte_samples.proofs.list.with_times.Statement.{statement}
 use Rattle.byte_samples.proofs.list.with_times.Tie as tie

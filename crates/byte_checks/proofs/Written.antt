@@ -17,7 +17,7 @@ use Rattle.sampling.specs.declared.samples.Sampled.{Sampled}
 use Rattle.sampling.specs.declared.samples.Sampled.the-variants.{Done, Refused}
 use Rattle.byte_lists.specs.Bytes.{byteOf}
 use Rattle.byte_lists.proofs.Aside.{Aside, told, writes}
-use Rattle.byte_samples.specs.ByteSamples.{entriesOf}
+use Rattle.byte_checks.specs.ByteChecks.{entriesOf}
 
 entries-are : (c : Counts) (x : Sampled) (m : ℕ) → x ≡ answered (Done c) Refused m → (m ≡ 0 → entriesOf x ≡ c .written) × ((m ≡ 0 → ⊥) → entriesOf x ≡ 0)
 entries-are c x zero e = (λ z. ap (λ (y : Sampled). entriesOf y) e, λ h. absurd (h refl))

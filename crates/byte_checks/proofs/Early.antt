@@ -1,25 +1,23 @@
 -- What t to s refuses before its own checks: the profile and its times come first.
-use Prim.Native.Nat.{ℕ, _/_, _≤_, _<_}
+use Prim.Native.Nat.{ℕ, _/_, _≤_}
 use mathlib.Core.Path.{_≡_, sym, _∙_}
 use mathlib.Core.List.{List, []}
 use native.Mathlib.Omega.{arith}
-use borrow.Author.Tests.{lt-ltb, lt-leb, ne-eqb, eqb-true}
+use borrow.Author.Tests.{ne-eqb, eqb-true}
 use lib.Dec.{eqb}
 use lib.ListN.{length}
 use lib.Ieee.{Float, lt}
 use lib.Ieee.Scale.{finite}
 use Rattle.loops.specs.Entries.{everyEntry, everyPair}
-use Rattle.refusals.specs.Most.{mostSamples}
 use Rattle.refusals.specs.Refusals.{unless, _or_}
 use Rattle.refusals.proofs.Chains.{or-none, unless-none}
 use Rattle.refusals.proofs.Outcomes.{or-stop}
 use Rattle.profile.specs.Profile.{lengthsNo, entriesNo, profileNo, speedNo}
 use Rattle.profile.proofs.Profiles.{Shaped, lengths-pass, lengths-stop}
 use Rattle.sampling.specs.Samples.{timedNo}
-use Rattle.sampling.specs.List.{samplesNo, listNo}
 use Rattle.byte_lists.specs.Bytes.{doublesOf}
 use Rattle.byte_lists.proofs.Fronts.{length-doubles}
-use Rattle.byte_samples.specs.ByteSamples.{countsNo}
+use Rattle.byte_checks.specs.ByteChecks.{countsNo}
 
 -- 11 and 12
 pub shape-timed : (s a : List ℕ) (t : List Float) (m : ℕ) → m ≡ lengthsNo (length s / 8) (length a / 8) → (m ≡ 0 → ⊥) → m ≡ timedNo (doublesOf s) (doublesOf a) t
@@ -58,12 +56,3 @@ counts-none s a t h =
 pub counts-refused : (s a t : List ℕ) (m number : ℕ) → m ≡ timedNo (doublesOf s) (doublesOf a) (doublesOf t) → number ≡ countsNo (length s / 8) (length a / 8) (length t / 8)
     → (number ≡ 0 → ⊥) → m ≡ 0 → ⊥
 counts-refused s a t m number e f h z = h (f ∙ (rw (length-doubles s, length-doubles a, length-doubles t) at (counts-none (doublesOf s) (doublesOf a) (doublesOf t) (sym e ∙ z))))
-
-pub timed-listed : (s a t x : List Float) (room m : ℕ) → m ≡ timedNo s a t → (m ≡ 0 → ⊥) → m ≡ listNo s a t x room
-unfolding listNo
-timed-listed s a t x room m e h = or-stop m _ _ e h
-
--- 28: more samples than are decoded
-pub many-listed : (s a t x : List Float) (room : ℕ) → timedNo s a t ≡ 0 → mostSamples < length x → 28 ≡ listNo s a t x room
-unfolding listNo samplesNo
-many-listed s a t x room z h = rw (z, lt-ltb 0 (length x) (omega arith), lt-leb (length x) mostSamples h)

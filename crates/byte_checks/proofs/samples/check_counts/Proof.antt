@@ -1,8 +1,8 @@
--- `byte_samples::samples::check_counts` meets its contract. Assumes nothing.
+-- `byte_checks::samples::check_counts` meets its contract. Assumes nothing.
 use borrow.Author.Needs.{needs}
-use Rattle.byte_samples.specs.ByteSamples.{countsNo}
-use Rattle.byte_samples.proofs.samples.check_counts.Statement.{statement}
-use Rattle.byte_samples.proofs.samples.check_counts.Tie as tie
+use Rattle.byte_checks.specs.ByteChecks.{countsNo}
+use Rattle.byte_checks.proofs.samples.check_counts.Statement.{statement}
+use Rattle.byte_checks.proofs.samples.check_counts.Tie as tie
 
 check-lengths-requires : tie.Need-check-lengths-requires
 check-lengths-requires c κs = search needs

@@ -1,8 +1,8 @@
--- `byte_samples::samples::decoded` meets its contract. Assumes nothing.
+-- `byte_checks::samples::decoded` meets its contract. Assumes nothing.
 use borrow.Author.Needs.{needs}
 use Rattle.byte_lists.proofs.Fronts.{front-is, front-count}
-use Rattle.byte_samples.proofs.samples.decoded.Statement.{statement}
-use Rattle.byte_samples.proofs.samples.decoded.Tie as tie
+use Rattle.byte_checks.proofs.samples.decoded.Statement.{statement}
+use Rattle.byte_checks.proofs.samples.decoded.Tie as tie
 
 slice-aggregate-decode : tie.Need-slice-aggregate-decode
 slice-aggregate-decode c = search needs

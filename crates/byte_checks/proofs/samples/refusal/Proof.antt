@@ -1,11 +1,11 @@
--- `byte_samples::samples::refusal` meets its contract. Assumes nothing.
+-- `byte_checks::samples::refusal` meets its contract. Assumes nothing.
 use mathlib.Core.Path.{sym, _∙_}
 use native.Mathlib.Omega.{arith}
 use borrow.Author.Needs.{needs}
 use Rattle.profile.proofs.Profiles.{lengths-pass}
-use Rattle.byte_samples.proofs.Early.{shape-timed, no-times}
-use Rattle.byte_samples.proofs.samples.refusal.Statement.{statement}
-use Rattle.byte_samples.proofs.samples.refusal.Tie as tie
+use Rattle.byte_checks.proofs.Early.{shape-timed, no-times}
+use Rattle.byte_checks.proofs.samples.refusal.Statement.{statement}
+use Rattle.byte_checks.proofs.samples.refusal.Tie as tie
 
 check-lengths-requires : tie.Need-check-lengths-requires
 check-lengths-requires c κs = search needs

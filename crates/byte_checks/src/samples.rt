@@ -12,7 +12,7 @@ ghost use lib.ListN.{length};
 ghost use Rattle.refusals.specs.Most.{mostStations};
 ghost use Rattle.sampling.specs.Samples.{timedNo};
 ghost use Rattle.byte_lists.specs.Bytes.{doublesOf};
-ghost use Rattle.byte_samples.specs.ByteSamples.{entriesOf, countsNo};
+ghost use Rattle.byte_checks.specs.ByteChecks.{entriesOf, countsNo};
 
 // How many doubles an answer has for the output.
 pub fn written(a: Sampled) -> usize
