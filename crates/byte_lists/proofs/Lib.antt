@@ -1,2 +1,4 @@
 pub mod Encoding
 pub mod Fronts
+pub mod Aside
+pub mod Tens

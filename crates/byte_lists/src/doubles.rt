@@ -7,7 +7,7 @@ ghost use Prim.Native.Nat.{_+_, _*_, _/_, _%_, _≤_, _<_, _^_, min};
 ghost use lib.Dec.{eqb};
 ghost use lib.ListN.{length};
 ghost use Rattle.loops.specs.Upto.{at, filled};
-ghost use Rattle.byte_lists.specs.Bytes.{fourAt, wordAt, doubleAt, byteOf, fourPut, wordPut};
+ghost use Rattle.byte_lists.specs.Bytes.{fourAt, wordAt, doubleAt, doublesOf, byteOf, fourPut, wordPut};
 
 // 10 is refused where one of three lengths is not divisible by eight.
 pub fn in_eights(a: usize, b: usize, c: usize) -> bool
@@ -52,6 +52,17 @@ fn word_at(b: &[u8], i: usize) -> u64
     ensures { λ r. ⌜ r ≡ wordAt (now (b .entry)) i ⌝ }
 {
     four_at(b, i) + 0x1_0000_0000 * four_at(b, i + 4)
+}
+
+// The double at place k of b, NaN where there is none.
+pub fn double_at(b: &[u8], k: usize) -> f64
+    ensures { λ r. ⌜ r ≡ at (doublesOf (now (b .entry))) k ⌝ }
+{
+    if k < b.len() / 8 {
+        double_of(word_at(b, 8 * k))
+    } else {
+        0.0 / 0.0
+    }
 }
 
 // The doubles of b, at the front of out, as far as both go.

@@ -1,14 +1,15 @@
 // a to b on byte lists.
-use crate::profile;
 use byte_lists::doubles;
 use interpolation::slopes::Sloped;
 use interpolation::slopes::a_to_b_topp2;
+use profile::checks;
+use refusals::most;
 ghost use mathlib.Core.Path.{_≡_};
-ghost use Prim.Native.Nat.{_-_, _/_, _≤_};
+ghost use Prim.Native.Nat.{_/_, _≤_};
 ghost use lib.ListN.{length};
-ghost use Rattle.interpolation.specs.Slopes.{slope, slopesNo};
-ghost use Rattle.byte_lists.specs.Bytes.{doublesOf};
-ghost use Rattle.conversions.specs.Stations.{Replied, SlopesReplied, slopesByteNo, slopedNumber};
+ghost use Rattle.refusals.specs.Most.{mostStations};
+ghost use Rattle.interpolation.specs.Slopes.{slopesNo};
+ghost use Rattle.conversions.specs.Replies.{SlopesReplied, WholeSlopes, ByteSlopes, slopedNumber};
 
 fn number_of(r: Sloped) -> u64
     ensures { λ n. ⌜ n ≡ slopedNumber r ⌝ }
@@ -22,7 +23,7 @@ fn number_of(r: Sloped) -> u64
 // Worked out aside, then written as bytes.
 fn slopes(s: &[f64], a: &[f64], aside: &mut [f64], out: &mut [u8]) -> u64
     requires { ⌜ length (now s) ≤ length (now aside) ⌝ }
-    ensures { λ r. ⌜ Replied (slopesNo (now (s .entry)) (now (a .entry)) (length (now (out .entry)) / 8)) (slope (now (s .entry)) (now (a .entry))) (length (now (s .entry)) - 1) (now (out .entry)) r (now (out .exit)) ⌝ }
+    ensures { λ r. ⌜ SlopesReplied (slopesNo (now (s .entry)) (now (a .entry)) (length (now (out .entry)) / 8)) (now (s .entry)) (now (a .entry)) (now (out .entry)) r (now (out .exit)) ⌝ }
 {
     let room = doubles::room(out.len(), aside.len());
     let number = number_of(a_to_b_topp2(s, a, &mut aside[..room]));
@@ -33,12 +34,12 @@ fn slopes(s: &[f64], a: &[f64], aside: &mut [f64], out: &mut [u8]) -> u64
 }
 
 fn decoded(s: &[u8], a: &[u8], out: &mut [u8]) -> u64
-    requires { ⌜ (length (now s) / 8 ≤ 4096) × (length (now a) / 8 ≤ 4096) ⌝ }
-    ensures { λ r. ⌜ SlopesReplied (now (s .entry)) (now (a .entry)) (slopesNo (doublesOf (now (s .entry))) (doublesOf (now (a .entry))) (length (now (out .entry)) / 8)) (now (out .entry)) r (now (out .exit)) ⌝ }
+    requires { ⌜ (length (now s) / 8 ≤ mostStations) × (length (now a) / 8 ≤ mostStations) ⌝ }
+    ensures { λ r. ⌜ WholeSlopes (now (s .entry)) (now (a .entry)) (now (out .entry)) r (now (out .exit)) ⌝ }
 {
-    let mut stations = [0.0; 4096];
-    let mut speeds = [0.0; 4096];
-    let mut aside = [0.0; 4096];
+    let mut stations = [0.0; most::STATIONS];
+    let mut speeds = [0.0; most::STATIONS];
+    let mut aside = [0.0; most::STATIONS];
     doubles::decode(s, &mut stations);
     doubles::decode(a, &mut speeds);
     slopes(
@@ -51,10 +52,10 @@ fn decoded(s: &[u8], a: &[u8], out: &mut [u8]) -> u64
 
 // One entry fewer than stations.
 pub fn a_to_b(s: &[u8], a: &[u8], out: &mut [u8]) -> u64
-    ensures { λ r. ⌜ SlopesReplied (now (s .entry)) (now (a .entry)) (slopesByteNo (now (s .entry)) (now (a .entry)) (now (out .entry))) (now (out .entry)) r (now (out .exit)) ⌝ }
+    ensures { λ r. ⌜ ByteSlopes (now (s .entry)) (now (a .entry)) (now (out .entry)) r (now (out .exit)) ⌝ }
 {
     if doubles::in_eights(s.len(), a.len(), out.len()) {
-        let number = profile::lengths(s.len() / 8, a.len() / 8);
+        let number = checks::check_lengths(s.len() / 8, a.len() / 8);
         if number == 0 {
             return decoded(s, a, out);
         }

@@ -1,14 +1,15 @@
 // s to t on byte lists.
-use crate::profile;
 use byte_lists::doubles;
 use interpolation::times::Timed;
 use interpolation::times::s_to_t_topp2;
+use profile::checks;
+use refusals::most;
 ghost use mathlib.Core.Path.{_≡_};
 ghost use Prim.Native.Nat.{_/_, _≤_};
 ghost use lib.ListN.{length};
-ghost use Rattle.interpolation.specs.Times.{timeAt, timesNo};
-ghost use Rattle.byte_lists.specs.Bytes.{doublesOf};
-ghost use Rattle.conversions.specs.Stations.{Replied, TimesReplied, timesByteNo, timedNumber};
+ghost use Rattle.refusals.specs.Most.{mostStations};
+ghost use Rattle.interpolation.specs.Times.{timesNo};
+ghost use Rattle.conversions.specs.Replies.{TimesReplied, WholeTimes, ByteTimes, timedNumber};
 
 fn number_of(r: Timed) -> u64
     ensures { λ n. ⌜ n ≡ timedNumber r ⌝ }
@@ -22,7 +23,7 @@ fn number_of(r: Timed) -> u64
 // Worked out aside, then written as bytes.
 fn times(s: &[f64], a: &[f64], t0: f64, aside: &mut [f64], out: &mut [u8]) -> u64
     requires { ⌜ length (now s) ≤ length (now aside) ⌝ }
-    ensures { λ r. ⌜ Replied (timesNo (now (s .entry)) (now (a .entry)) t0 (length (now (out .entry)) / 8)) (timeAt (now (s .entry)) (now (a .entry)) t0) (length (now (s .entry))) (now (out .entry)) r (now (out .exit)) ⌝ }
+    ensures { λ r. ⌜ TimesReplied (timesNo (now (s .entry)) (now (a .entry)) t0 (length (now (out .entry)) / 8)) (now (s .entry)) (now (a .entry)) t0 (now (out .entry)) r (now (out .exit)) ⌝ }
 {
     let room = doubles::room(out.len(), aside.len());
     let number = number_of(s_to_t_topp2(s, a, t0, &mut aside[..room]));
@@ -33,12 +34,12 @@ fn times(s: &[f64], a: &[f64], t0: f64, aside: &mut [f64], out: &mut [u8]) -> u6
 }
 
 fn decoded(s: &[u8], a: &[u8], t0: f64, out: &mut [u8]) -> u64
-    requires { ⌜ (length (now s) / 8 ≤ 4096) × (length (now a) / 8 ≤ 4096) ⌝ }
-    ensures { λ r. ⌜ TimesReplied (now (s .entry)) (now (a .entry)) t0 (timesNo (doublesOf (now (s .entry))) (doublesOf (now (a .entry))) t0 (length (now (out .entry)) / 8)) (now (out .entry)) r (now (out .exit)) ⌝ }
+    requires { ⌜ (length (now s) / 8 ≤ mostStations) × (length (now a) / 8 ≤ mostStations) ⌝ }
+    ensures { λ r. ⌜ WholeTimes (now (s .entry)) (now (a .entry)) t0 (now (out .entry)) r (now (out .exit)) ⌝ }
 {
-    let mut stations = [0.0; 4096];
-    let mut speeds = [0.0; 4096];
-    let mut aside = [0.0; 4096];
+    let mut stations = [0.0; most::STATIONS];
+    let mut speeds = [0.0; most::STATIONS];
+    let mut aside = [0.0; most::STATIONS];
     doubles::decode(s, &mut stations);
     doubles::decode(a, &mut speeds);
     times(
@@ -52,10 +53,10 @@ fn decoded(s: &[u8], a: &[u8], t0: f64, out: &mut [u8]) -> u64
 
 // One entry for each station.
 pub fn s_to_t(s: &[u8], a: &[u8], t0: f64, out: &mut [u8]) -> u64
-    ensures { λ r. ⌜ TimesReplied (now (s .entry)) (now (a .entry)) t0 (timesByteNo (now (s .entry)) (now (a .entry)) t0 (now (out .entry))) (now (out .entry)) r (now (out .exit)) ⌝ }
+    ensures { λ r. ⌜ ByteTimes (now (s .entry)) (now (a .entry)) t0 (now (out .entry)) r (now (out .exit)) ⌝ }
 {
     if doubles::in_eights(s.len(), a.len(), out.len()) {
-        let number = profile::lengths(s.len() / 8, a.len() / 8);
+        let number = checks::check_lengths(s.len() / 8, a.len() / 8);
         if number == 0 {
             return decoded(s, a, t0, out);
         }

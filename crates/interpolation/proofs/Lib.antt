@@ -1,3 +1,2 @@
-pub mod Fronts
-pub mod Profiles
+pub mod Filled
 pub mod Timing

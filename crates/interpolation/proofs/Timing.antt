@@ -7,26 +7,27 @@ use native.Mathlib.Omega.{arith}
 use borrow.Author.Tests.{leb-true}
 use lib.ListN.{length}
 use lib.Dec.{leb}
-use lib.Ieee.{Float, binary64, add}
+use lib.Ieee.{Float, binary64}
 use lib.Ieee.Scale.{finite}
+use Rattle.number.specs.Doubles.{_⊕_}
 use Rattle.roots.specs.Root.{sqrtOf}
 use Rattle.loops.specs.Upto.{at}
 use Rattle.refusals.specs.Refusals.{unless, _or_}
 use Rattle.refusals.proofs.Chains.{or-none, unless-none}
-use Rattle.interpolation.specs.Profile.{profileNo, speedNo}
+use Rattle.profile.specs.Profile.{profileNo, speedNo}
 use Rattle.interpolation.specs.Times.{leg, legTime, timeAt, startNo}
-use Rattle.interpolation.proofs.Profiles.{Shaped, shaped}
+use Rattle.profile.proofs.Profiles.{Shaped, shaped}
 
-time-more : (s a : List Float) (t0 : Float) (k : ℕ) → timeAt s a t0 (k + 1) ≡ add binary64 (timeAt s a t0 k) (legTime s a k)
+time-more : (s a : List Float) (t0 : Float) (k : ℕ) → timeAt s a t0 (k + 1) ≡ timeAt s a t0 k ⊕ legTime s a k
 unfolding timeAt
 time-more s a t0 k = rw add-one
 
 pub time-turn : (s a : List Float) (t0 : Float) (k : ℕ) (t root next : Float) → t ≡ timeAt s a t0 k → root ≡ sqrtOf binary64 (at a k) → next ≡ sqrtOf binary64 (at a (k + 1))
-    → add binary64 t (leg (at s k) (at s (k + 1)) root next) ≡ timeAt s a t0 (k + 1)
+    → t ⊕ leg (at s k) (at s (k + 1)) root next ≡ timeAt s a t0 (k + 1)
 unfolding legTime
 time-turn s a t0 k t root next e f g = rw (e, f, g) (sym (time-more s a t0 k))
 
-pub starts : (s a : List Float) (t0 : Float) (room : ℕ) → startNo s a t0 room ≡ 0 → Shaped s a × (length s ≤ room)
+pub starts : (s a : List Float) (t0 : Float) (room : ℕ) → startNo s a t0 room ≡ 0 → Shaped (length s) (length a) × (length s ≤ room)
 unfolding startNo
 starts s a t0 room h =
     let short = unless (leb (length s) room) 29 in

@@ -1,4 +1,2 @@
-pub mod Profile
 pub mod Slopes
 pub mod Times
-pub mod Parts

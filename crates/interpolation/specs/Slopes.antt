@@ -1,24 +1,20 @@
 -- a to b
 use Prim.Native.Nat.{ℕ, _+_, _-_}
-use mathlib.Core.Bool.{false}
 use mathlib.Core.List.{List}
 use lib.Dec.{leb}
-use lib.IntN.{negsuc}
 use lib.ListN.{length}
-use lib.Ieee.{Float, fin, binary64, sub, mul, div}
+use lib.Ieee.{Float}
+use Rattle.number.specs.Doubles.{half, _⊖_, _⊗_, _⊘_}
 use Rattle.loops.specs.Upto.{at}
 use Rattle.refusals.specs.Refusals.{unless, _or_}
 use Rattle.refusals.specs.Outcome.{Outcome}
-use Rattle.interpolation.specs.Profile.{profileNo}
+use Rattle.profile.specs.Profile.{profileNo}
 use Rattle.interpolation.specs.declared.slopes.Sloped.{Sloped}
 use Rattle.interpolation.specs.declared.slopes.Sloped.the-variants.{Done, Refused}
 
-abbrev pub half : Float
-half = fin false 1 (negsuc 0)
-
 -- 0.5·(a1 - a0)/(s1 - s0) of the pair at k
 unfoldable pub slope : List Float → List Float → ℕ → Float
-slope s a k = div binary64 (mul binary64 half (sub binary64 (at a (k + 1)) (at a k))) (sub binary64 (at s (k + 1)) (at s k))
+slope s a k = half ⊗ (at a (k + 1) ⊖ at a k) ⊘ (at s (k + 1) ⊖ at s k)
 
 -- 11 to 15, 29
 unfoldable pub slopesNo : List Float → List Float → ℕ → ℕ

@@ -1,26 +1,23 @@
 -- s to t
 use Prim.Native.Nat.{ℕ, zero, suc, _+_, _-_}
 use mathlib.Core.List.{List}
-use mathlib.Core.Bool.{Bool, false}
+use mathlib.Core.Bool.{Bool}
 use lib.Dec.{leb}
-use lib.IntN.{pos}
 use lib.ListN.{length}
-use lib.Ieee.{Float, fin, binary64, add, sub, mul, div}
+use lib.Ieee.{Float, binary64}
 use lib.Ieee.Scale.{finite}
+use Rattle.number.specs.Doubles.{two, _⊕_, _⊖_, _⊗_, _⊘_}
 use Rattle.roots.specs.Root.{sqrtOf}
 use Rattle.loops.specs.Upto.{every, at}
 use Rattle.refusals.specs.Refusals.{unless, _or_}
 use Rattle.refusals.specs.Outcome.{Outcome}
-use Rattle.interpolation.specs.Profile.{profileNo, speedNo}
+use Rattle.profile.specs.Profile.{profileNo, speedNo}
 use Rattle.interpolation.specs.declared.times.Timed.{Timed}
 use Rattle.interpolation.specs.declared.times.Timed.the-variants.{Done, Refused}
 
-abbrev pub two : Float
-two = fin false 1 (pos 1)
-
 -- 2·(s1 - s0)/(root a0 + root a1), the roots given
 unfoldable pub leg : Float → Float → Float → Float → Float
-leg s0 s1 root0 root1 = div binary64 (mul binary64 two (sub binary64 s1 s0)) (add binary64 root0 root1)
+leg s0 s1 root0 root1 = two ⊗ (s1 ⊖ s0) ⊘ (root0 ⊕ root1)
 
 -- of the pair at k
 unfoldable pub legTime : List Float → List Float → ℕ → Float
@@ -29,7 +26,7 @@ legTime s a k = leg (at s k) (at s (k + 1)) (sqrtOf binary64 (at a k)) (sqrtOf b
 -- the time at station k: starting at t0, each pair before k added, from the left
 unfoldable pub timeAt : List Float → List Float → Float → ℕ → Float
 timeAt s a t0 zero = t0
-timeAt s a t0 (suc k) = add binary64 (timeAt s a t0 k) (legTime s a k)
+timeAt s a t0 (suc k) = timeAt s a t0 k ⊕ legTime s a k
 
 -- every computed time is finite
 unfoldable pub timesFinite : List Float → List Float → Float → Bool

@@ -1,5 +1,3 @@
-// Stations, speeds, times: a to b and s to t of the Rust's interpolation.rs, and the checks of a profile. Document 01, "Stations, speeds, times", decides;
-// t to s is in crate `sampling`.
-pub mod checks;
+// Stations, speeds, times: a to b and s to t of the Rust's interpolation.rs. Document 01, "Stations, speeds, times", decides; t to s is in crate `sampling`.
 pub mod slopes;
 pub mod times;

@@ -1,5 +1,5 @@
 // a to b: half the slope of the squared speed over each pair of stations.
-use crate::checks;
+use profile::checks;
 use refusals::chain::unless;
 ghost use mathlib.Core.Path.{_≡_};
 ghost use Prim.Native.Nat.{_+_, _-_, _<_, _≤_};

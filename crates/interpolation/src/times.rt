@@ -1,14 +1,16 @@
 // s to t: the time at each station, added up from the left.
-use crate::checks;
-use crate::checks::Entry;
 use number::size;
+use profile::checks;
+use profile::checks::Entry;
 use refusals::chain::or;
 use refusals::chain::unless;
+use refusals::most;
 use roots::square_root;
 ghost use mathlib.Core.Path.{_≡_};
 ghost use Prim.Native.Nat.{_+_, _-_, _<_, _≤_};
 ghost use lib.ListN.{length};
 ghost use Rattle.loops.specs.Upto.{filled, at};
+ghost use Rattle.refusals.specs.Most.{mostStations};
 ghost use Rattle.refusals.specs.Refusals.{unless};
 ghost use Rattle.interpolation.specs.Times.{leg, timeAt, timesFinite, startNo, Timing, Times};
 
@@ -75,10 +77,10 @@ fn copy(x: &[f64], out: &mut [f64])
 
 // The times are worked out aside: nothing is written before the last is known to be finite.
 fn settle(s: &[f64], a: &[f64], t0: f64, out: &mut [f64]) -> Timed
-    requires { ⌜ (length (now a) ≡ length (now s)) × (1 ≤ length (now s)) × (length (now s) ≤ 4096) × (length (now s) ≤ length (now out)) ⌝ }
+    requires { ⌜ (length (now a) ≡ length (now s)) × (1 ≤ length (now s)) × (length (now s) ≤ mostStations) × (length (now s) ≤ length (now out)) ⌝ }
     ensures { λ r. ⌜ Timing (now (s .entry)) (now (a .entry)) t0 (unless (timesFinite (now (s .entry)) (now (a .entry)) t0) 19) (now (out .entry)) r (now (out .exit)) ⌝ }
 {
-    let mut times = [0.0; 4096];
+    let mut times = [0.0; most::STATIONS];
     let last = fill(s, a, t0, &mut times);
     let n = s.len();
     if checks::every_entry(Entry::Finite, &times[..n]) {

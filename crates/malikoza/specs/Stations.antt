@@ -4,14 +4,18 @@ use mathlib.Core.Path.{_≡_}
 use mathlib.Core.Bool.{Bool, not}
 use mathlib.Core.List.{List}
 use lib.Dec.{eqb}
+use lib.ListN.{length}
 use lib.Ieee.{Float}
 use Rattle.loops.specs.Upto.{filled}
 use Rattle.refusals.specs.Refusals.{onlyIf}
 use Rattle.refusals.specs.Outcome.{answered}
-use Rattle.sampling.specs.declared.samples.Counts.{Counts}
+use Rattle.following.specs.declared.pass.Counts.{Counts}
 use Rattle.sampling.specs.declared.samples.Sampled.{Sampled}
 use Rattle.sampling.specs.declared.samples.Sampled.the-variants.{Done, Refused}
-use Rattle.byte_lists.specs.Bytes.{byteOf}
+use Rattle.sampling.specs.Grid.{gridEntry, gridEntries}
+use Rattle.byte_lists.specs.Bytes.{doublesOf, byteOf}
+use Rattle.byte_samples.specs.ByteSamples.{listCounts, listStation, listByteNo}
+use Rattle.byte_grids.specs.ByteGrids.{gridCounts, gridByteNo}
 
 -- 01's number and values for each case of the answer: a refusal leaves what there was
 abbrev pub sampledNumber : Sampled → ℕ
@@ -46,6 +50,18 @@ pub record Counted (a : Sampled) (number before₀ before inside₀ inside past�
 pub record Tallied (done : Counts) (refusal : ℕ) (entry : ℕ → Float) (n : ℕ) (old : List ℕ) (number before₀ before inside₀ inside past₀ past written₀ written : ℕ) (new : List ℕ) : Type 0 where
   pub counted : Counted (answered (Done done) Refused refusal) number before₀ before inside₀ inside past₀ past written₀ written
   pub left : new ≡ onlyIf refusal (filled (byteOf entry) (8 * n) old) old
+
+-- of a sample list
+abbrev pub ListTallied : List ℕ → List ℕ → List ℕ → List ℕ → List ℕ → ℕ → ℕ → ℕ → ℕ → ℕ → ℕ → ℕ → ℕ → ℕ → List ℕ → Type 0
+ListTallied s a t x old =
+    Tallied (listCounts (doublesOf t) (doublesOf x)) (listByteNo s a t x old) (listStation (doublesOf s) (doublesOf a) (doublesOf t) (doublesOf x))
+    (length (doublesOf x)) old
+
+-- of an even grid
+abbrev pub GridTallied : List ℕ → List ℕ → List ℕ → Float → Float → Bool → List ℕ → ℕ → ℕ → ℕ → ℕ → ℕ → ℕ → ℕ → ℕ → ℕ → List ℕ → Type 0
+GridTallied s a t t0 dt final old =
+    Tallied (gridCounts (doublesOf s) (doublesOf a) (doublesOf t) t0 dt final) (gridByteNo s a t t0 dt final old)
+    (gridEntry (doublesOf s) (doublesOf a) (doublesOf t) t0 dt) (gridEntries (doublesOf s) (doublesOf a) (doublesOf t) t0 dt final) old
 
 -- "with_final: 0 is no, anything else is yes"
 abbrev pub yes : ℕ → Bool

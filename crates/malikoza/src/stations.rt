@@ -1,21 +1,18 @@
 // Stations, speeds and times on byte lists. Each returns 0, or the refusal number; a refusal writes nothing.
-use conversions::grid::t_to_s_grid;
-use conversions::list::t_to_s_list;
+use byte_grids::grid::t_to_s_grid;
+use byte_samples::list::t_to_s_list;
 use conversions::slopes::a_to_b;
 use conversions::times::s_to_t;
 use number::pattern::double_of;
 use sampling::samples::Sampled;
-ghost use lib.ListN.{length};
 ghost use lib.Ieee.{binary64, ofBits};
-ghost use Rattle.sampling.specs.Grid.{gridEntry, gridEntries};
-ghost use Rattle.byte_lists.specs.Bytes.{doublesOf};
-ghost use Rattle.conversions.specs.Stations.{SlopesReplied, TimesReplied, slopesByteNo, timesByteNo, listByteNo, listCounts, listStation, gridByteNo, gridCounts};
-ghost use Rattle.malikoza.specs.Stations.{Counted, Tallied, yes};
+ghost use Rattle.conversions.specs.Replies.{ByteSlopes, ByteTimes};
+ghost use Rattle.malikoza.specs.Stations.{Counted, ListTallied, GridTallied, yes};
 
 // One entry fewer than stations.
 #[no_mangle]
 pub extern "C" fn malikoza_a_to_b(s: &[u8], a: &[u8], out: &mut [u8]) -> u64
-    ensures { λ r. ⌜ SlopesReplied (now (s .entry)) (now (a .entry)) (slopesByteNo (now (s .entry)) (now (a .entry)) (now (out .entry))) (now (out .entry)) r (now (out .exit)) ⌝ }
+    ensures { λ r. ⌜ ByteSlopes (now (s .entry)) (now (a .entry)) (now (out .entry)) r (now (out .exit)) ⌝ }
 {
     a_to_b(s, a, out)
 }
@@ -23,7 +20,7 @@ pub extern "C" fn malikoza_a_to_b(s: &[u8], a: &[u8], out: &mut [u8]) -> u64
 // One entry for each station.
 #[no_mangle]
 pub extern "C" fn malikoza_s_to_t(s: &[u8], a: &[u8], t0: u64, out: &mut [u8]) -> u64
-    ensures { λ r. ⌜ TimesReplied (now (s .entry)) (now (a .entry)) (ofBits binary64 t0) (timesByteNo (now (s .entry)) (now (a .entry)) (ofBits binary64 t0) (now (out .entry))) (now (out .entry)) r (now (out .exit)) ⌝ }
+    ensures { λ r. ⌜ ByteTimes (now (s .entry)) (now (a .entry)) (ofBits binary64 t0) (now (out .entry)) r (now (out .exit)) ⌝ }
 {
     s_to_t(s, a, double_of(t0), out)
 }
@@ -63,7 +60,7 @@ pub extern "C" fn malikoza_t_to_s_list(
     past: &mut u64,
     written: &mut u64,
 ) -> u64
-    ensures { λ r. ⌜ Tallied (listCounts (now (t .entry)) (now (x .entry))) (listByteNo (now (s .entry)) (now (a .entry)) (now (t .entry)) (now (x .entry)) (now (out .entry))) (listStation (now (s .entry)) (now (a .entry)) (now (t .entry)) (now (x .entry))) (length (doublesOf (now (x .entry)))) (now (out .entry)) r
+    ensures { λ r. ⌜ ListTallied (now (s .entry)) (now (a .entry)) (now (t .entry)) (now (x .entry)) (now (out .entry)) r
         (now (before .entry)) (now (before .exit)) (now (inside .entry)) (now (inside .exit)) (now (past .entry)) (now (past .exit)) (now (written .entry)) (now (written .exit)) (now (out .exit)) ⌝ }
 {
     let found = t_to_s_list(s, a, t, x, out);
@@ -85,7 +82,7 @@ pub extern "C" fn malikoza_t_to_s_grid(
     past: &mut u64,
     written: &mut u64,
 ) -> u64
-    ensures { λ r. ⌜ Tallied (gridCounts (now (s .entry)) (now (a .entry)) (now (t .entry)) (ofBits binary64 t0) (ofBits binary64 dt) (yes «with_final»)) (gridByteNo (now (s .entry)) (now (a .entry)) (now (t .entry)) (ofBits binary64 t0) (ofBits binary64 dt) (yes «with_final») (now (out .entry))) (gridEntry (doublesOf (now (s .entry))) (doublesOf (now (a .entry))) (doublesOf (now (t .entry))) (ofBits binary64 t0) (ofBits binary64 dt)) (gridEntries (doublesOf (now (s .entry))) (doublesOf (now (a .entry))) (doublesOf (now (t .entry))) (ofBits binary64 t0) (ofBits binary64 dt) (yes «with_final»)) (now (out .entry)) r
+    ensures { λ r. ⌜ GridTallied (now (s .entry)) (now (a .entry)) (now (t .entry)) (ofBits binary64 t0) (ofBits binary64 dt) (yes «with_final») (now (out .entry)) r
         (now (before .entry)) (now (before .exit)) (now (inside .entry)) (now (inside .exit)) (now (past .entry)) (now (past .exit)) (now (written .entry)) (now (written .exit)) (now (out .exit)) ⌝ }
 {
     let found = t_to_s_grid(s, a, t, double_of(t0), double_of(dt), with_final != 0, out);

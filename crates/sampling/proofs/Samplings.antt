@@ -5,30 +5,48 @@ use mathlib.Core.Bool.{Bool, true, false, not, cond, _&&_}
 use mathlib.Core.List.{List}
 use native.Mathlib.Nat.{add-zero, le-refl}
 use native.Mathlib.Omega.{arith}
-use borrow.Author.Tests.{leb-true, lt-ltb, le-ltb}
-use lib.Dec.{leb, ltb}
+use borrow.Author.Tests.{leb-true, le-leb, eqb-true, lt-ltb, le-ltb}
+use lib.Dec.{eqb, leb, ltb}
 use lib.ListN.{length, set}
 use lib.Ieee.{Float, lt, le}
 use lib.Ieee.Scale.{finite}
+use Rattle.number.specs.Doubles.{zero as plus-zero}
 use Rattle.loops.specs.Upto.{filled, at}
+use Rattle.refusals.specs.Most.{mostSamples}
 use Rattle.refusals.specs.Refusals.{unless, _or_}
 use Rattle.loops.proofs.Filling.{fill-turn, fill-same, filled-at}
 use Rattle.refusals.proofs.Chains.{or-none, unless-none}
 use Rattle.loops.specs.Entries.{everyEntry, everyPair}
-use Rattle.interpolation.specs.Profile.{zeroF}
-use Rattle.sampling.specs.Samples.{countsOf, timedNo}
+use Rattle.following.specs.Places.{stationAt, gridTime, countsOf}
+use Rattle.following.specs.Following.{fitting, Passed}
+use Rattle.following.specs.declared.pass.Source.the-variants.{Listed, Even}
+use Rattle.following.proofs.Walks.{fits}
+use Rattle.sampling.specs.Samples.{timedNo}
 use Rattle.sampling.specs.List.{samplesNo, listNo}
-use Rattle.sampling.specs.Grid.{lastOf, gridSize, gridTime, finalAdded, evenNo, gridNo, gridStation, gridEntry, gridEntries, Gridded}
-use Rattle.sampling.specs.Parts.{oneMore, Ended}
-use Rattle.sampling.specs.declared.samples.Counts.{Counts}
+use Rattle.sampling.specs.Grid.{lastOf, gridSize, finalAdded, evenNo, gridNo, gridStation, gridEntry, gridEntries, Gridded}
+use Rattle.sampling.specs.Ending.{entryMore, Ended}
+use Rattle.following.specs.declared.pass.Counts.{Counts}
 use Rattle.sampling.specs.declared.samples.Sampled.the-variants.{Done}
 use Rattle.refusals.proofs.Outcomes.{succeeds}
-use Rattle.sampling.proofs.Walks.{timed}
+use Rattle.profile.specs.Profile.{profileNo, speedNo}
+use Rattle.profile.proofs.Profiles.{shaped}
 
-sampled : (x : List Float) (room : ℕ) → samplesNo x room ≡ 0 → (length x ≤ 65536) × (length x ≤ room)
+-- what a profile with its times has that passes its checks
+pub timed : (s a t : List Float) → timedNo s a t ≡ 0 → (length a ≡ length s) × (length t ≡ length s) × (2 ≤ length s)
+unfolding timedNo
+timed s a t h =
+    let later = unless (everyEntry finite t) 21 or unless (everyPair lt t) 22 in
+    let same = eqb (length t) (length s) in
+    let p = or-none (profileNo s a) (speedNo a or unless same 20 or later) h in
+    let q = or-none (speedNo a) (unless same 20 or later) (p .1) in
+    let u = or-none (unless same 20) later (q .1) in
+    let w = shaped s a (p .0) in
+    (w .same, eqb-true _ _ (unless-none same 20 (omega arith) (u .0)), w .low)
+
+sampled : (x : List Float) (room : ℕ) → samplesNo x room ≡ 0 → (length x ≤ mostSamples) × (length x ≤ room)
 unfolding samplesNo
 sampled x room h =
-    let few = leb (length x) 65536 in
+    let few = leb (length x) mostSamples in
     let short = unless (leb (length x) room) 29 in
     let falls = unless (everyPair lt x) 27 or short in
     let entries = unless (everyEntry finite x) 26 or falls in
@@ -39,7 +57,7 @@ sampled x room h =
     (leb-true _ _ (unless-none few 28 (omega arith) (q .0)), leb-true _ _ (unless-none (leb (length x) room) 29 (omega arith) (v .1)))
 
 pub listed : (s a t x : List Float) (room : ℕ) → listNo s a t x room ≡ 0
-    → (length a ≡ length s) × (length t ≡ length s) × (2 ≤ length s) × (length x ≤ 65536) × (length x ≤ room)
+    → (length a ≡ length s) × (length t ≡ length s) × (2 ≤ length s) × (length x ≤ mostSamples) × (length x ≤ room)
 unfolding listNo
 listed s a t x room h =
     let p = or-none (timedNo s a t) (samplesNo x room) h in
@@ -47,28 +65,45 @@ listed s a t x room h =
     let v = sampled x room (p .1) in
     (q .0, q .1, q .2, v .0, v .1)
 
-sized : (t : List Float) (t0 dt : Float) (final : Bool) (room : ℕ) → evenNo t t0 dt final room ≡ 0
-    → (gridSize t t0 dt ≤ 65536) × (gridSize t t0 dt + cond final 1 0 ≤ room)
+pub sized : (t : List Float) (t0 dt : Float) → evenNo t t0 dt ≡ 0 → gridSize t t0 dt ≤ mostSamples
 unfolding evenNo
-sized t t0 dt final room h =
-    let n = gridSize t t0 dt in
-    let short = unless (leb (n + cond final 1 0) room) 29 in
-    let many = unless (leb n 65536) 28 or short in
-    let still = unless (not (le dt zeroF)) 24 or many in
+sized t t0 dt h =
+    let few = leb (gridSize t t0 dt) mostSamples in
+    let many = unless few 28 in
+    let still = unless (not (le dt plus-zero)) 24 or many in
     let p = or-none (unless (finite t0) 16) (unless (finite dt) 23 or still) h in
     let q = or-none (unless (finite dt) 23) still (p .1) in
-    let u = or-none (unless (not (le dt zeroF)) 24) many (q .1) in
-    let v = or-none (unless (leb n 65536) 28) short (u .1) in
-    (leb-true _ _ (unless-none (leb n 65536) 28 (omega arith) (v .0)), leb-true _ _ (unless-none (leb (n + cond final 1 0) room) 29 (omega arith) (v .1)))
+    let u = or-none (unless (not (le dt plus-zero)) 24) many (q .1) in
+    leb-true _ _ (unless-none few 28 (omega arith) (u .1))
 
 pub gridded : (s a t : List Float) (t0 dt : Float) (final : Bool) (room : ℕ) → gridNo s a t t0 dt final room ≡ 0
-    → (length a ≡ length s) × (length t ≡ length s) × (2 ≤ length s) × (gridSize t t0 dt ≤ 65536) × (gridSize t t0 dt + cond final 1 0 ≤ room)
+    → (length a ≡ length s) × (length t ≡ length s) × (2 ≤ length s) × (gridSize t t0 dt ≤ mostSamples) × (gridSize t t0 dt + cond final 1 0 ≤ room)
 unfolding gridNo
 gridded s a t t0 dt final room h =
-    let p = or-none (timedNo s a t) (evenNo t t0 dt final room) h in
+    let enough = leb (gridSize t t0 dt + cond final 1 0) room in
+    let p = or-none (timedNo s a t) (evenNo t t0 dt or unless enough 29) h in
+    let u = or-none (evenNo t t0 dt) (unless enough 29) (p .1) in
     let q = timed s a t (p .0) in
-    let v = sized t t0 dt final room (p .1) in
-    (q .0, q .1, q .2, v .0, v .1)
+    (q .0, q .1, q .2, sized t t0 dt (u .0), leb-true _ _ (unless-none enough 29 (omega arith) (u .1)))
+
+-- what passes these checks fits the pass over the times
+pub list-passed : (s a t x old : List Float) (r : Counts) (new : List Float) → listNo s a t x (length old) ≡ 0
+    → Passed (fitting s a t Listed x (length x) (length old)) s a t Listed x (length x) old r new
+    → (r ≡ countsOf t (at x) (length x) (length x)) × (new ≡ filled (λ j. stationAt s a t (at x j)) (length x) old)
+list-passed s a t x old r new h p =
+    let z = listed s a t x (length old) h in
+    let e = fits s a t Listed x (length x) (length old) (z .0) (z .1) (z .2) (z .3) (z .4) (le-leb (length x) (length x) (le-refl (length x))) in
+    (rw e at (p .counts), rw e at (p .left))
+
+pub grid-passed : (s a t : List Float) (t0 dt : Float) (final : Bool) (x : List Float) (n : ℕ) (old : List Float) (r : Counts) (new : List Float)
+    → gridNo s a t t0 dt final (length old) ≡ 0 → n ≡ gridSize t t0 dt
+    → Passed (fitting s a t (Even t0 dt) x n (length old)) s a t (Even t0 dt) x n old r new
+    → (r ≡ countsOf t (gridTime t0 dt) n n) × (new ≡ filled (gridStation s a t t0 dt) n old)
+unfolding gridStation
+grid-passed s a t t0 dt final x n old r new h k p =
+    let z = gridded s a t t0 dt final (length old) h in
+    let e = fits s a t (Even t0 dt) x n (length old) (z .0) (z .1) (z .2) (omega arith) (omega arith) refl in
+    (rw e at (p .counts), rw e at (p .left))
 
 -- the rule for the final looks at the last entry, which the walk has written
 last-entry : (s t : List Float) (t0 : Float) (n : ℕ) (f : ℕ → Float) (old : List Float) → finalAdded s t t0 n (at (filled f n old) (n - 1)) ≡ finalAdded s t t0 n (f (n - 1))
@@ -97,9 +132,9 @@ ended f n v b old h = go b h
     go true h = fill-turn g n old (filled f n old) v (omega arith) same (rw (le-ltb n n (le-refl n)))
     go false h = rw add-zero same
 
-counted : (t : List Float) (x : ℕ → Float) (n : ℕ) (b : Bool) → cond b (oneMore (countsOf t x n n) 0 0 0) (countsOf t x n n) ≡ countsOf t x n (n + cond b 1 0)
-unfolding countsOf oneMore
-counted t x n true = simp add-zero
+counted : (t : List Float) (x : ℕ → Float) (n : ℕ) (b : Bool) → cond b (entryMore (countsOf t x n n)) (countsOf t x n n) ≡ countsOf t x n (n + cond b 1 0)
+unfolding countsOf entryMore
+counted t x n true = refl
 counted t x n false = simp add-zero
 
 -- the walk's counts and entries, and the final after them

@@ -3,16 +3,17 @@ use Prim.Native.Nat.{ℕ, _+_, _-_}
 use mathlib.Core.List.{List}
 use mathlib.Core.Bool.{Bool, not, cond, _&&_}
 use lib.Dec.{leb, ltb, eqb}
-use lib.IntN.{pos}
 use lib.ListN.{length}
-use lib.Ieee.{Float, binary64, add, sub, mul, div, lt, le, ofInt}
+use lib.Ieee.{Float, lt, le}
 use lib.Ieee.Scale.{finite}
+use Rattle.number.specs.Doubles.{zero, _⊖_, _⊘_}
 use Rattle.number.specs.Leaves.{wholePart}
 use Rattle.loops.specs.Upto.{at}
+use Rattle.refusals.specs.Most.{mostSamples}
 use Rattle.refusals.specs.Refusals.{unless, _or_}
 use Rattle.refusals.specs.Outcome.{Outcome}
-use Rattle.interpolation.specs.Profile.{zeroF}
-use Rattle.sampling.specs.Samples.{stationAt, countsOf, timedNo}
+use Rattle.following.specs.Places.{stationAt, gridTime, countsOf}
+use Rattle.sampling.specs.Samples.{timedNo}
 use Rattle.sampling.specs.declared.samples.Sampled.{Sampled}
 use Rattle.sampling.specs.declared.samples.Sampled.the-variants.{Done, Refused}
 
@@ -21,28 +22,26 @@ lastOf x = at x (length x - 1)
 
 -- the whole part of (last time - t0)/dt
 unfoldable pub gridSize : List Float → Float → Float → ℕ
-gridSize t t0 dt = wholePart (div binary64 (sub binary64 (lastOf t) t0) dt)
-
--- t0 + i·dt
-unfoldable pub gridTime : Float → Float → ℕ → Float
-gridTime t0 dt i = add binary64 t0 (mul binary64 (ofInt binary64 (pos i)) dt)
+gridSize t t0 dt = wholePart ((lastOf t ⊖ t0) ⊘ dt)
 
 -- the rule for the final: if no sample was made, the last station is added when t0 ≤ last time; else it is added when the last entry is less than it
 unfoldable pub finalAdded : List Float → List Float → Float → ℕ → Float → Bool
 finalAdded s t t0 n entry = cond (eqb n 0) (le t0 (lastOf t)) (lt entry (lastOf s))
 
--- 16, 23, 24, 28, 29: one entry more is needed where the final is asked for, added or not
-unfoldable pub evenNo : List Float → Float → Float → Bool → ℕ → ℕ
-evenNo t t0 dt final room =
+-- 16, 23, 24, 28
+unfoldable pub evenNo : List Float → Float → Float → ℕ
+evenNo t t0 dt =
     unless (finite t0) 16
     or unless (finite dt) 23
-    or unless (not (le dt zeroF)) 24
-    or unless (leb (gridSize t t0 dt) 65536) 28
-    or unless (leb (gridSize t t0 dt + cond final 1 0) room) 29
+    or unless (not (le dt zero)) 24
+    or unless (leb (gridSize t t0 dt) mostSamples) 28
 
--- 11 to 15, 17, 18, 20 to 22, 16, 23, 24, 28, 29
+-- 11 to 15, 17, 18, 20 to 22, 16, 23, 24, 28, 29: one entry more is needed where the final is asked for, added or not
 unfoldable pub gridNo : List Float → List Float → List Float → Float → Float → Bool → ℕ → ℕ
-gridNo s a t t0 dt final room = timedNo s a t or evenNo t t0 dt final room
+gridNo s a t t0 dt final room =
+    timedNo s a t
+    or evenNo t t0 dt
+    or unless (leb (gridSize t t0 dt + cond final 1 0) room) 29
 
 unfoldable pub gridStation : List Float → List Float → List Float → Float → Float → ℕ → Float
 gridStation s a t t0 dt i = stationAt s a t (gridTime t0 dt i)

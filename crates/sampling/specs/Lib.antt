@@ -1,4 +1,4 @@
 pub mod Samples
 pub mod List
 pub mod Grid
-pub mod Parts
+pub mod Ending

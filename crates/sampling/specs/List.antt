@@ -6,10 +6,12 @@ use lib.ListN.{length}
 use lib.Ieee.{Float, lt}
 use lib.Ieee.Scale.{finite}
 use Rattle.loops.specs.Upto.{at}
+use Rattle.refusals.specs.Most.{mostSamples}
 use Rattle.refusals.specs.Refusals.{unless, _or_}
 use Rattle.refusals.specs.Outcome.{Outcome}
 use Rattle.loops.specs.Entries.{everyEntry, everyPair}
-use Rattle.sampling.specs.Samples.{stationAt, countsOf, timedNo}
+use Rattle.following.specs.Places.{stationAt, countsOf}
+use Rattle.sampling.specs.Samples.{timedNo}
 use Rattle.sampling.specs.declared.samples.Sampled.{Sampled}
 use Rattle.sampling.specs.declared.samples.Sampled.the-variants.{Done, Refused}
 
@@ -17,7 +19,7 @@ use Rattle.sampling.specs.declared.samples.Sampled.the-variants.{Done, R
 unfoldable pub samplesNo : List Float → ℕ → ℕ
 samplesNo x room =
     unless (ltb 0 (length x)) 25
-    or unless (leb (length x) 65536) 28
+    or unless (leb (length x) mostSamples) 28
     or unless (everyEntry finite x) 26
     or unless (everyPair lt x) 27
     or unless (leb (length x) room) 29

@@ -1,61 +1,13 @@
--- t to s: the station at one time, and the counts
-use Prim.Native.Nat.{ℕ, _+_, _-_}
+-- What t to s refuses for a list and for an even grid
+use Prim.Native.Nat.{ℕ}
 use mathlib.Core.List.{List}
-use mathlib.Core.Bool.{Bool, false, not, cond, _&&_}
-use lib.Dec.{ltb, eqb}
-use lib.IntN.{negsuc}
+use lib.Dec.{eqb}
 use lib.ListN.{length}
-use lib.Ieee.{Float, nan, fin, binary64, add, sub, mul, div, lt}
+use lib.Ieee.{Float, lt}
 use lib.Ieee.Scale.{finite}
-use Rattle.roots.specs.Root.{sqrtOf}
-use Rattle.fused.specs.Fused.{fmaOf}
-use Rattle.loops.specs.Upto.{count, first, at}
-use Rattle.refusals.specs.Refusals.{unless, _or_}
 use Rattle.loops.specs.Entries.{everyEntry, everyPair}
-use Rattle.interpolation.specs.Profile.{profileNo, speedNo}
-use Rattle.sampling.specs.declared.samples.Counts.{Counts}
-
-abbrev pub quarter : Float
-quarter = fin false 1 (negsuc 1)
-
--- the first interval whose end time is not below x; the number of intervals where there is none
-unfoldable pub intervalOf : List Float → Float → ℕ
-intervalOf t x = first (λ k. not (lt (at t (k + 1)) x)) (length t - 1)
-
--- dt·fma(c1, 0.25·dt, root a0), the root given
-unfoldable pub inverse2order : Float → Float → Float → Float
-inverse2order root c1 dt = mul binary64 dt (fmaOf binary64 c1 (mul binary64 quarter dt) root)
-
--- (a1 - a0)/(s1 - s0) of the pair at k
-unfoldable pub c1At : List Float → List Float → ℕ → Float
-c1At s a k = div binary64 (sub binary64 (at a (k + 1)) (at a k)) (sub binary64 (at s (k + 1)) (at s k))
-
--- s0 + dt·fma(c1, 0.25·dt, root a0) within interval k
-unfoldable pub stationIn : List Float → List Float → List Float → ℕ → Float → Float
-stationIn s a t k x = add binary64 (at s k) (inverse2order (sqrtOf binary64 (at a k)) (c1At s a k) (sub binary64 x (at t k)))
-
--- a time below the first, within an interval, past the last
-unfoldable pub isBefore : List Float → Float → Bool
-isBefore t x = lt x (at t 0)
-
-unfoldable pub isInside : List Float → Float → Bool
-isInside t x = not (isBefore t x) && ltb (intervalOf t x) (length t - 1)
-
-unfoldable pub isPast : List Float → Float → Bool
-isPast t x = not (isBefore t x) && not (isInside t x)
-
--- the station at time x, or NaN
-unfoldable pub stationAt : List Float → List Float → List Float → Float → Float
-stationAt s a t x = cond (isInside t x) (stationIn s a t (intervalOf t x) x) nan
-
--- the counts of the times x 0 .. x (n - 1), with `entries` written
-unfoldable pub countsOf : List Float → (ℕ → Float) → ℕ → ℕ → Counts
-countsOf t x n entries = record {
-  before = count (λ j. isBefore t (x j)) n;
-  inside = count (λ j. isInside t (x j)) n;
-  past = count (λ j. isPast t (x j)) n;
-  written = entries;
-}
+use Rattle.refusals.specs.Refusals.{unless, _or_}
+use Rattle.profile.specs.Profile.{profileNo, speedNo}
 
 -- 11 to 15, 17, 18, 20 to 22
 unfoldable pub timedNo : List Float → List Float → List Float → ℕ

@@ -1,10 +1,12 @@
 // t to s for a sample list, the Rust's NonUniformTimeGrid.
 use crate::samples;
 use crate::samples::Sampled;
-use crate::samples::Source;
-use interpolation::checks;
+use following::pass;
+use following::pass::Source;
+use profile::checks;
 use refusals::chain::or;
 use refusals::chain::unless;
+use refusals::most;
 ghost use mathlib.Core.Path.{_≡_};
 ghost use Rattle.sampling.specs.List.{samplesNo, listNo, Listed};
 
@@ -15,7 +17,7 @@ fn samples_refusal(x: &[f64], room: usize) -> u64
     if x.len() == 0 {
         return 25;
     }
-    if 65536 < x.len() {
+    if most::SAMPLES < x.len() {
         return 28;
     }
     let short = unless(x.len() <= room, 29);
@@ -41,7 +43,7 @@ pub fn t_to_s_topp2_list(s: &[f64], a: &[f64], t: &[f64], x: &[f64], out: &mut [
     let number = refusal(s, a, t, x, out.len());
     if number == 0 {
         let n = x.len();
-        return Sampled::Done(samples::t_to_s_topp2_core(s, a, t, Source::Listed, x, n, out));
+        return Sampled::Done(pass::t_to_s_topp2_core(s, a, t, Source::Listed, x, n, out));
     }
     Sampled::Refused(number)
 }

@@ -16,12 +16,14 @@ use Rattle.topp2_ra.specs.Recovery.{tolerance, tolerancesGood, noneNan, inputsG
 use Rattle.rows.specs.Row.{numbersFinite, allWithin, admits, unfit, unmeetable, rowsNo}
 use Rattle.loops.specs.Upto.{every, count, seek, first, table, filled}
 use Rattle.loops.specs.Entries.{everyEntry, everyPair}
-use Rattle.interpolation.specs.Profile.{notBelowZero, notBothZero, profileNo, speedNo}
+use Rattle.profile.specs.Profile.{notBelowZero, notBothZero, lengthsNo, entriesNo, profileNo, speedNo}
 use Rattle.interpolation.specs.Slopes.{slope, slopesNo}
 use Rattle.interpolation.specs.Times.{leg, legTime, timeAt, timesFinite, startNo, timesNo}
-use Rattle.sampling.specs.Samples.{intervalOf, inverse2order, c1At, stationIn, isBefore, isInside, isPast, stationAt, countsOf, timedNo}
+use Rattle.pieces.specs.Pieces.{pieceOf, inverse2order, stationInside, pieceAt, stationIn}
+use Rattle.following.specs.Places.{intervalOf, isBefore, isInside, isPast, stationAt, countsOf, gridTime}
+use Rattle.sampling.specs.Samples.{timedNo}
 use Rattle.sampling.specs.List.{samplesNo, listNo}
-use Rattle.sampling.specs.Grid.{lastOf, gridSize, gridTime, finalAdded, evenNo, gridNo, gridStation, gridEntry, gridEntries}
+use Rattle.sampling.specs.Grid.{lastOf, gridSize, finalAdded, evenNo, gridNo, gridStation, gridEntry, gridEntries}
 use Rattle.starred.specs.Cases.{AllHold, starred}
 
 infixr 10 _also_
@@ -33,8 +35,8 @@ unfolding round add sub mul div lt le eq isNan ofBits toBits negative countsBelo
     rootIn isqrt stickRoot rootNearest sqrtOf hypotOf infPlus fmaOf approxOrder insidePrevious numbersFinite allWithin admits between passes
     worseNormalized worseRaw certificate reach incline cutBy narrowed unreachable flatBy flat neighbours tryNeighbours searched wholeRows
     tolerance tolerancesGood noneNan inputsGood previousGood currentGood unfit unmeetable rowsNo requestNo afterCap withCap recovered every
-    count seek first table filled everyEntry everyPair notBelowZero notBothZero profileNo speedNo slope slopesNo leg legTime timeAt
-    timesFinite startNo timesNo intervalOf inverse2order c1At stationIn isBefore isInside isPast stationAt countsOf timedNo samplesNo listNo
+    count seek first table filled everyEntry everyPair notBelowZero notBothZero lengthsNo entriesNo profileNo speedNo slope slopesNo leg legTime timeAt
+    timesFinite startNo timesNo intervalOf pieceOf inverse2order stationInside pieceAt stationIn isBefore isInside isPast stationAt countsOf timedNo samplesNo listNo
     lastOf gridSize gridTime finalAdded evenNo gridNo gridStation gridEntry gridEntries ofInt toUnsigned
 starred-hold =
     -- root, hypot, fused multiply-add

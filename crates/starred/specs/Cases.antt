@@ -18,7 +18,7 @@ use Rattle.sampling.specs.Grid.{Gridded}
 use Rattle.interpolation.specs.declared.times.Timed.{Timed}
 use Rattle.interpolation.specs.declared.times.Timed.the-variants.{Done as Timed·Done}
 use Rattle.interpolation.specs.declared.slopes.Sloped.the-variants.{Done as Sloped·Done}
-use Rattle.sampling.specs.declared.samples.Counts.{Counts}
+use Rattle.following.specs.declared.pass.Counts.{Counts}
 use Rattle.sampling.specs.declared.samples.Sampled.the-variants.{Done as Sampled·Done}
 
 -- what is asked, and what the answer is

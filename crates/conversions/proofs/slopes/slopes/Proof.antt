@@ -9,9 +9,10 @@ use Rattle.refusals.proofs.Chains.{or-none, unless-none}
 use Rattle.interpolation.specs.Slopes.{slope, slopesNo, Slopes}
 use Rattle.interpolation.specs.declared.slopes.Sloped.{Sloped}
 use Rattle.interpolation.specs.declared.slopes.Sloped.the-variants.{Done, Refused}
-use Rattle.interpolation.proofs.Profiles.{Shaped, shaped}
-use Rattle.conversions.specs.Stations.{slopedNumber}
-use Rattle.conversions.proofs.Replies.{answer-number, room-same, room-fits, Aside, told, writes, replies, declines}
+use Rattle.profile.proofs.Profiles.{Shaped, shaped}
+use Rattle.conversions.specs.Replies.{slopedNumber}
+use Rattle.byte_lists.proofs.Aside.{room-same, room-fits, Aside, told, writes}
+use Rattle.conversions.proofs.Replies.{answer-number, replies, declines}
 use borrow.Author.Needs.{needs}
 use Rattle.conversions.proofs.slopes.slopes.Statement.{statement}
 use Rattle.conversions.proofs.slopes.slopes.Tie as tie
@@ -20,7 +21,7 @@ same-room : (s a : List Float) (room most : ℕ) → length s ≤ most → slope
 unfolding slopesNo
 same-room s a room most h = rw (room-same (length s - 1) room most (omega arith))
 
-passed : (s a : List Float) (room : ℕ) → slopesNo s a room ≡ 0 → Shaped s a × (length s - 1 ≤ room)
+passed : (s a : List Float) (room : ℕ) → slopesNo s a room ≡ 0 → Shaped (length s) (length a) × (length s - 1 ≤ room)
 unfolding slopesNo
 passed s a room z = let p = or-none _ _ z in (shaped s a (p .0), leb-true _ _ (unless-none _ 29 (omega arith) (p .1)))
 

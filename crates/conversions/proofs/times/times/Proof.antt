@@ -9,8 +9,9 @@ use Rattle.interpolation.proofs.Timing.{starts}
 use Rattle.interpolation.specs.Times.{timeAt, timesFinite, startNo, timesNo, Times}
 use Rattle.interpolation.specs.declared.times.Timed.{Timed}
 use Rattle.interpolation.specs.declared.times.Timed.the-variants.{Done, Refused}
-use Rattle.conversions.specs.Stations.{timedNumber}
-use Rattle.conversions.proofs.Replies.{answer-number, room-same, room-fits, Aside, told, writes, replies, declines}
+use Rattle.conversions.specs.Replies.{timedNumber}
+use Rattle.byte_lists.proofs.Aside.{room-same, room-fits, Aside, told, writes}
+use Rattle.conversions.proofs.Replies.{answer-number, replies, declines}
 use borrow.Author.Needs.{needs}
 use Rattle.conversions.proofs.times.times.Statement.{statement}
 use Rattle.conversions.proofs.times.times.Tie as tie

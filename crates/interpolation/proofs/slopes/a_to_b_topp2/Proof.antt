@@ -9,13 +9,13 @@ use lib.ListN.{length}
 use lib.Ieee.{Float}
 use Rattle.refusals.proofs.Chains.{or-none, unless-none}
 use Rattle.interpolation.specs.Slopes.{slopesNo}
-use Rattle.interpolation.proofs.Profiles.{Shaped, shaped}
+use Rattle.profile.proofs.Profiles.{Shaped, shaped}
 use Rattle.refusals.proofs.Outcomes.{refuses, succeeds}
 use Rattle.interpolation.proofs.slopes.a_to_b_topp2.Statement.{statement}
 use Rattle.interpolation.proofs.slopes.a_to_b_topp2.Tie as tie
 
 -- what passing every check says
-passed : (s a : List Float) (room : ℕ) → slopesNo s a room ≡ 0 → Shaped s a × (length s - 1 ≤ room)
+passed : (s a : List Float) (room : ℕ) → slopesNo s a room ≡ 0 → Shaped (length s) (length a) × (length s - 1 ≤ room)
 unfolding slopesNo
 passed s a room h = let p = or-none _ _ h in (shaped s a (p .0), leb-true _ _ (unless-none _ 29 (omega arith) (p .1)))
 

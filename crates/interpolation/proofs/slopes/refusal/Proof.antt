@@ -4,7 +4,7 @@ use native.Mathlib.Omega.{arith}
 use borrow.Author.Needs.{needs}
 use Rattle.interpolation.specs.Slopes.{slopesNo}
 use Rattle.refusals.proofs.Outcomes.{or-stop, or-next}
-use Rattle.interpolation.proofs.Profiles.{shaped}
+use Rattle.profile.proofs.Profiles.{shaped}
 use Rattle.interpolation.proofs.slopes.refusal.Statement.{statement}
 use Rattle.interpolation.proofs.slopes.refusal.Tie as tie
 

@@ -1,7 +1,6 @@
 -- `interpolation::slopes::slope` meets its contract. Assumes nothing.
 use mathlib.Core.Path.{refl}
 use borrow.Author.Needs.{needs}
-use lib.Ieee.{ofBits}
 use Rattle.interpolation.specs.Slopes.{slope}
 use Rattle.interpolation.proofs.slopes.slope.Statement.{statement}
 use Rattle.interpolation.proofs.slopes.slope.Tie as tie
@@ -37,7 +36,7 @@ shared-slice-read-result-4 : tie.Need-shared-slice-read-result-4
 shared-slice-read-result-4 c = search needs
 
 returns : tie.Need-returns
-unfolding slope ofBits
+unfolding slope
 returns c = refl
 
 pub slope-spec : {M : Type 1} → statement M

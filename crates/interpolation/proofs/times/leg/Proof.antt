@@ -1,7 +1,6 @@
 -- `interpolation::times::leg` meets its contract. Assumes nothing.
 use mathlib.Core.Path.{refl}
 use borrow.Author.Needs.{needs}
-use lib.Ieee.{ofBits}
 use Rattle.interpolation.specs.Times.{leg}
 use Rattle.interpolation.proofs.times.leg.Statement.{statement}
 use Rattle.interpolation.proofs.times.leg.Tie as tie
@@ -22,7 +21,7 @@ shared-slice-read-result-2 : tie.Need-shared-slice-read-result-2
 shared-slice-read-result-2 c = search needs
 
 returns : tie.Need-returns
-unfolding leg ofBits
+unfolding leg
 returns c = refl
 
 pub leg-spec : {M : Type 1} → statement M

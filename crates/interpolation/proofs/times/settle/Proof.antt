@@ -6,7 +6,7 @@ use lib.Ieee.Scale.{finite}
 use Rattle.interpolation.specs.Times.{timesFinite}
 use Rattle.interpolation.specs.declared.times.Timed.the-variants.{Done}
 use Rattle.refusals.proofs.Outcomes.{refuses, succeeds}
-use Rattle.interpolation.proofs.Fronts.{front-length, front-fits, front-entries, front-copied}
+use Rattle.interpolation.proofs.Filled.{front-length, front-fits, front-entries, front-copied}
 use Rattle.interpolation.proofs.times.settle.Statement.{statement}
 use Rattle.interpolation.proofs.times.settle.Tie as tie
 

@@ -18,8 +18,8 @@ mul-out c = search needs
 slice-write-out : tie.Need-slice-write-out
 slice-write-out c = let h = rw (c .before .before .before .before .if1 .taken) at (c .before .before .before .before .before .before .before .before .pre .2) in omega (arith, h)
 
-one-more-requires : tie.Need-one-more-requires
-one-more-requires c κs = (search needs, search needs, search needs, c .before .before .before .before .before .before .before .before .pre .3)
+entry-more-requires : tie.Need-entry-more-requires
+entry-more-requires c κs = search needs
 
 same-length : tie.Need-same-length
 same-length c = search needs
@@ -28,7 +28,7 @@ returns : tie.Need-returns
 returns c =
     let e = c .before .before .before .before .before .if1 .taken in
     let a = sym (c .before .before .before .final-added .ensures) ∙ c .before .before .if2 .taken in
-    record { counts = rw (e, a) (c .one-more .ensures); left = rw (e, a, ← c .before .last .ensures) }
+    record { counts = rw (e, a) (c .entry-more .ensures); left = rw (e, a, ← c .before .last .ensures) }
 
 same-length-2 : tie.Need-same-length-2
 same-length-2 c = search needs
@@ -50,7 +50,7 @@ finish-spec =
     last-requires
     mul-out
     slice-write-out
-    one-more-requires
+    entry-more-requires
     same-length
     returns
     same-length-2

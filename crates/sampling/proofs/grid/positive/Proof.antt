@@ -1,11 +1,9 @@
 -- `sampling::grid::positive` meets its contract. Assumes nothing.
 use mathlib.Core.Path.{refl}
-use lib.Ieee.{ofBits}
 use Rattle.sampling.proofs.grid.positive.Statement.{statement}
 use Rattle.sampling.proofs.grid.positive.Tie as tie
 
 returns : tie.Need-returns
-unfolding ofBits
 returns c = refl
 
 pub positive-spec : {M : Type 1} → statement M

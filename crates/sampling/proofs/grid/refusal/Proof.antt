@@ -4,23 +4,47 @@ use native.Mathlib.Omega.{arith}
 use borrow.Author.Needs.{needs}
 use Rattle.sampling.specs.Grid.{gridNo}
 use Rattle.refusals.proofs.Outcomes.{or-stop, or-next}
-use Rattle.sampling.proofs.Walks.{timed}
+use Rattle.sampling.proofs.Samplings.{timed}
 use Rattle.sampling.proofs.grid.refusal.Statement.{statement}
 use Rattle.sampling.proofs.grid.refusal.Tie as tie
 
 refusal-requires : tie.Need-refusal-requires
 refusal-requires c κs = search needs
 
+size-requires : tie.Need-size-requires
+size-requires c κs = omega (arith, timed _ _ _ (sym (c .before .refusal .ensures) ∙ c .if1 .taken))
+
+has-room-requires : tie.Need-has-room-requires
+has-room-requires c κs = search needs
+
+unless-requires : tie.Need-unless-requires
+unless-requires c κs = search needs
+
 even-refusal-requires : tie.Need-even-refusal-requires
-even-refusal-requires c κs = omega (arith, timed _ _ _ (sym (c .before .refusal .ensures) ∙ c .if1 .taken))
+even-refusal-requires c κs = omega (arith, timed _ _ _ (sym (c .before .before .before .before .refusal .ensures) ∙ c .before .before .before .if1 .taken))
+
+or-requires : tie.Need-or-requires
+or-requires c κs = search needs
 
 returns : tie.Need-returns
 unfolding gridNo
-returns c = or-next _ _ _ _ (c .before .before .refusal .ensures) (c .before .if1 .taken) (c .even-refusal .ensures)
+returns c =
+    let p = c .before .before .before .before .before in
+    or-next _ _ _ _ (p .before .refusal .ensures) (p .if1 .taken) (cc)
 
 returns-2 : tie.Need-returns-2
 unfolding gridNo
 returns-2 c = or-stop _ _ _ (c .before .refusal .ensures) (c .if1 .left)
 
 pub refusal-spec : {M : Type 1} → statement M
-refusal-spec = tie.close (tie.spec refusal-requires even-refusal-requires returns returns-2)
+refusal-spec =
+    tie.close
+    (tie.spec
+    refusal-requires
+    size-requires
+    has-room-requires
+    unless-requires
+    even-refusal-requires
+    or-requires
+    returns
+    returns-2)

@@ -7,6 +7,7 @@ use lib.Dec.{leb}
 use lib.ListN.{length}
 use lib.Ieee.{lt}
 use lib.Ieee.Scale.{finite}
+use Rattle.refusals.specs.Most.{mostSamples}
 use Rattle.refusals.specs.Refusals.{unless}
 use Rattle.refusals.proofs.Chains.{or-assoc}
 use Rattle.loops.specs.Entries.{everyEntry, everyPair}
@@ -20,7 +21,7 @@ returns c = rw (c .if1 .taken)
 
 returns-2 : tie.Need-returns-2
 unfolding samplesNo
-returns-2 c = let n = length (c .before .before .before .args .x .now) in rw (lt-ltb 0 n (omega arith), lt-leb n 65536 (c .if2 .taken))
+returns-2 c = let n = length (c .before .before .before .args .x .now) in rw (lt-ltb 0 n (omega arith), lt-leb n mostSamples (c .if2 .taken))
 
 unless-requires : tie.Need-unless-requires
 unless-requires c κs = search needs
@@ -37,7 +38,7 @@ returns-3 c =
     let x = c .before .before .before .before .before .before .args .x .now in
     let n = length x in
     let chained = or-assoc (unless (everyEntry finite x) 26) (unless (everyPair lt x) 27) (unless (leb n (c .before .before .before .before .before .before .args .room)) 29) in
-    rw (lt-ltb 0 n (omega arith), le-leb n 65536 (c .before .before .before .if2 .left))
+    rw (lt-ltb 0 n (omega arith), le-leb n mostSamples (c .before .before .before .if2 .left))
     (c .or .ensures ∙ rw (c .before .check-rising .ensures, c .before .before .unless .ensures) chained)
 
 pub samples-refusal-spec : {M : Type 1} → statement M

@@ -1,10 +1,9 @@
 -- `sampling::list::t_to_s_topp2_list` meets its contract. Assumes nothing.
 use mathlib.Core.Path.{sym, ap, _∙_}
-use native.Mathlib.Omega.{arith}
 use borrow.Author.Needs.{needs}
 use Rattle.sampling.specs.declared.samples.Sampled.the-variants.{Done}
 use Rattle.refusals.proofs.Outcomes.{refuses, succeeds}
-use Rattle.sampling.proofs.Samplings.{listed}
+use Rattle.sampling.proofs.Samplings.{list-passed}
 use Rattle.sampling.proofs.list.t_to_s_topp2_list.Statement.{statement}
 use Rattle.sampling.proofs.list.t_to_s_topp2_list.Tie as tie
 
@@ -12,9 +11,7 @@ refusal-requires : tie.Need-refusal-requires
 refusal-requires c κs = search needs
 
 t-to-s-topp2-core-requires : tie.Need-t-to-s-topp2-core-requires
-t-to-s-topp2-core-requires c κs =
-    let z = listed _ _ _ _ _ (sym (c .before .before .refusal .ensures) ∙ c .before .if1 .taken) in
-    (z .0, z .1, z .2, z .3, z .4, omega arith)
+t-to-s-topp2-core-requires c κs = search needs
 
 same-length : tie.Need-same-length
 same-length c = search needs
@@ -22,8 +19,9 @@ same-length c = search needs
 returns : tie.Need-returns
 returns c =
     let p = c .before .before .before .before in
-    let f = c .before .before .t-to-s-topp2-core .ensures in
-    succeeds (sym (p .before .refusal .ensures) ∙ p .if1 .taken) (ap Done (f .0)) (f .1)
+    let none = sym (p .before .refusal .ensures) ∙ p .if1 .taken in
+    let f = list-passed _ _ _ _ _ _ _ none (c .before .before .t-to-s-topp2-core .ensures) in
+    succeeds none (ap Done (f .0)) (f .1)
 
 returns-2 : tie.Need-returns-2
 returns-2 c = refuses _ (c .before .refusal .ensures) (c .if1 .left)

@@ -1,0 +1,39 @@
+-- `byte_grids::grid::t_to_s_grid` meets its contract. Assumes nothing.
+use mathlib.Core.Path.{sym, _∙_}
+use mathlib.Core.Bool.{_&&_}
+use native.Mathlib.Omega.{arith}
+use borrow.Author.Tests.{eq-eqb, ne-eqb}
+use borrow.Author.Needs.{needs}
+use Rattle.refusals.proofs.Outcomes.{refuses}
+use Rattle.byte_lists.specs.Bytes.{inEights}
+use Rattle.byte_lists.proofs.Tens.{all-six, not-first, not-second, ten-answered, ten-refused}
+use Rattle.byte_grids.proofs.grid.t_to_s_grid.Statement.{statement}
+use Rattle.byte_grids.proofs.grid.t_to_s_grid.Tie as tie
+
+in-eights-requires : tie.Need-in-eights-requires
+in-eights-requires c κs = search needs
+
+whole-requires : tie.Need-whole-requires
+whole-requires c κs = search needs
+
+same-length : tie.Need-same-length
+same-length c = search needs
+
+returns : tie.Need-returns
+returns c =
+    let p = c .before .before .before .before in
+    let q = p .before in
+    ten-answered _ (all-six _ _ (sym (q .before .in-eights .ensures) ∙ q .if1 .taken) (eq-eqb _ _ (p .if2 .taken))) (c .before .before .whole .ensures)
+
+returns-2 : tie.Need-returns-2
+returns-2 c =
+    let a = c .before .before .before .before .before .before .before .args in
+    let first = inEights (a .s .now) && (inEights (a .a .now) && inEights (a .out .now)) in
+    refuses 10 (ten-refused _ _ (not-second first _ (ne-eqb _ _ (c .if2 .left)))) (omega arith)
+
+returns-3 : tie.Need-returns-3
+returns-3 c = refuses 10 (ten-refused _ _ (not-first _ _ (sym (c .before .in-eights .ensures) ∙ c .if1 .left))) (omega arith)
+
+pub t-to-s-grid-spec : {M : Type 1} → statement M
+t-to-s-grid-spec =
+    tie.close (tie.spec in-eights-requires whole-requires same-length returns returns-2 returns-3)

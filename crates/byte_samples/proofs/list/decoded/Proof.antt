@@ -1,0 +1,96 @@
+use native.Mathlib.Omega.{arith}
+use Rattle.byte_lists.proofs.Fronts.{front-is, front-count}
+use borrow.Author.Needs.{needs}
+use Rattle.byte_samples.proofs.list.decoded.Statement.{statement}
+use Rattle.byte_samples.proofs.list.decoded.Tie as tie
+
+slice-aggregate-decode : tie.Need-slice-aggregate-decode
+slice-aggregate-decode c = search needs
+
+decode-requires : tie.Need-decode-requires
+decode-requires c κs = search needs
+
+slice-aggregate-decode-2 : tie.Need-slice-aggregate-decode-2
+slice-aggregate-decode-2 c = search needs
+
+decode-requires-2 : tie.Need-decode-requires-2
+decode-requires-2 c κs = search needs
+
+slice-aggregate-decode-3 : tie.Need-slice-aggregate-decode-3
+slice-aggregate-decode-3 c = search needs
+
+decode-requires-3 : tie.Need-decode-requires-3
+decode-requires-3 c κs = search needs
+
+decode-requires-4 : tie.Need-decode-requires-4
+decode-requires-4 c κs = search needs
+
+array-share-prefix-stations : tie.Need-array-share-prefix-stations
+array-share-prefix-stations c = search needs
+
+slice-aggregate-sampled : tie.Need-slice-aggregate-sampled
+slice-aggregate-sampled c = front-count (c .before .before .before .before .before .before .before .before .before .before .before .before .before .before .before .before .before .before .before .before .before .args .s .now) _ _ (c .before .before .before .before .before .before .before .before .before .before .before .before .decode .ensures) (c .before .before .before .before .before .before .before .before .before .before .before .before .before .before .before .before .before .before .before .before .before .pre .0)
+
+array-share-prefix-speeds : tie.Need-array-share-prefix-speeds
+array-share-prefix-speeds c = search needs
+
+slice-aggregate-sampled-2 : tie.Need-slice-aggregate-sampled-2
+slice-aggregate-sampled-2 c = front-count (c .before .before .before .before .before .before .before .before .before .before .before .before .before .before .before .before .before .before .before .before .before .before .args .a .now) _ _ (c .before .before .before .before .before .before .before .before .before .before .decode2 .ensures) (c .before .before .before .before .before .before .before .before .before .before .before .before .before .before .before .before .before .before .before .before .before .before .pre .1)
+
+array-share-prefix-times : tie.Need-array-share-prefix-times
+array-share-prefix-times c = search needs
+
+slice-aggregate-sampled-3 : tie.Need-slice-aggregate-sampled-3
+slice-aggregate-sampled-3 c = front-count (c .before .before .before .before .before .before .before .before .before .before .before .before .before .before .before .before .before .before .before .before .before .before .before .args .t .now) _ _ (c .before .before .before .before .before .before .before .before .decode3 .ensures) (c .before .before .before .before .before .before .before .before .before .before .before .before .before .before .before .before .before .before .before .before .before .before .before .pre .2)
+
+slice-reshare-prefix-sampled : tie.Need-slice-reshare-prefix-sampled
+slice-reshare-prefix-sampled c = search needs
+
+slice-aggregate-sampled-4 : tie.Need-slice-aggregate-sampled-4
+slice-aggregate-sampled-4 c = front-count (c .before .before .before .before .before .before .before .before .before .before .before .before .before .before .before .before .before .before .before .before .before .before .before .before .args .x .now) _ _ (c .before .before .before .before .before .before .decode4 .ensures) (c .before .before .before .before .before .before .before .before .before .before .before .before .before .before .before .before .before .before .before .before .before .before .before .before .pre .3)
+
+sampled-requires : tie.Need-sampled-requires
+sampled-requires c κs = omega (arith, front-count (c .before .before .before .before .before .before .before .before .before .before .before .before .before .before .before .before .before .before .before .before .before .before .before .before .before .before .args .x .now) _ _ (c .before .before .before .before .before .before .before .before .decode4 .ensures) (c .before .before .before .before .before .before .before .before .before .before .before .before .before .before .before .before .before .before .before .before .before .before .before .before .before .before .pre .3), c .before .before .before .before .before .before .before .before .before .before .before .before .before .before .before .before .before .before .before .before .before .before .before .before .before .before .pre .4)
+
+same-length : tie.Need-same-length
+same-length c = search needs
+
+same-length-2 : tie.Need-same-length-2
+same-length-2 c = search needs
+
+same-length-3 : tie.Need-same-length-3
+same-length-3 c = search needs
+
+returns : tie.Need-returns
+returns c = let a = c .before .before .before .before .before .before .before .before .before .before .before .before .before .before .before .before .before .before .before .before .before .before .before .before .before .before .before .before .before .before .before .args in
+    rw (
+      front-is (a .s .now) _ _ (c .before .before .before .before .before .before .before .before .before .before .before .before .before .before .before .before .before .before .before .before .before .before .decode .ensures) (c .before .before .before .before .before .before .before .before .before .before .before .before .before .before .before .before .before .before .before .before .before .before .before .before .before .before .before .before .before .before .before .pre .0),
+      front-is (a .a .now) _ _ (c .before .before .before .before .before .before .before .before .before .before .before .before .before .before .before .before .before .before .before .decode2 .ensures) (c .before .before .before .before .before .before .before .before .before .before .before .before .before .before .before .before .before .before .before .before .before .before .before .before .before .before .before .before .before .before .before .pre .1),
+      front-is (a .t .now) _ _ (c .before .before .before .before .before .before .before .before .before .before .before .before .before .before .before .before .decode3 .ensures) (c .before .before .before .before .before .before .before .before .before .before .before .before .before .before .before .before .before .before .before .before .before .before .before .before .before .before .before .before .before .before .before .pre .2),
+      front-is (a .x .now) _ _ (c .before .before .before .before .before .before .before .before .before .before .before .before .before .decode4 .ensures) (c .before .before .before .before .before .before .before .before .before .before .before .before .before .before .before .before .before .before .before .before .before .before .before .before .before .before .before .before .before .before .before .pre .3),
+    ) at (c .before .before .before .before .sampled .ensures)
+
+pub decoded-spec : {M : Type 1} → statement M
+decoded-spec =
+    tie.close
+    (tie.spec
+    slice-aggregate-decode
+    decode-requires
+    slice-aggregate-decode-2
+    decode-requires-2
+    slice-aggregate-decode-3
+    decode-requires-3
+    decode-requires-4
+    array-share-prefix-stations
+    slice-aggregate-sampled
+    array-share-prefix-speeds
+    slice-aggregate-sampled-2
+    array-share-prefix-times
+    slice-aggregate-sampled-3
+    slice-reshare-prefix-sampled
+    slice-aggregate-sampled-4
+    sampled-requires
+    same-length
+    same-length-2
+    same-length-3
+    returns)

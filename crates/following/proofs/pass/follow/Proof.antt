@@ -1,0 +1,113 @@
+-- `following::pass::follow` meets its contract. Assumes nothing.
+use Prim.Native.Nat.{ℕ, _≤_, _<_, _+_, _-_}
+use mathlib.Core.Path.{_≡_, refl, sym, _∙_}
+use mathlib.Core.Bool.{true}
+use native.Mathlib.Omega.{arith}
+use borrow.Author.Needs.{needs}
+use borrow.Author.Tests.{not-false}
+use lib.ListN.{length, length-set}
+use Rattle.loops.specs.Upto.{filled}
+use Rattle.loops.proofs.Filling.{fill-turn}
+use Rattle.following.specs.Places.{isInside, stationAt}
+use Rattle.following.specs.Following.{timeOf}
+use Rattle.following.proofs.Walks.{reaches-less, inside-within, same-interval, stays-inside, station-held, inside-more}
+use Rattle.following.proofs.pass.follow.Statement.{statement}
+use Rattle.following.proofs.pass.follow.Tie as tie
+
+abbrev Inv-loop : tie.InvT-loop
+Inv-loop s a t w source x start n out₀ j₀ out j =
+    (start ≤ j) × (j ≤ n) × (length out ≡ length out₀) × ((k : ℕ) → start ≤ k → k < j → isInside t (timeOf source x k) ≡ true) × (out ≡ filled (λ m. stationAt s a t (timeOf source x m)) j out₀)
+
+abbrev μ-loop : tie.MeasureT-loop
+μ-loop s a t w source x start n out₀ j₀ out j = n - j
+
+is-inside-requires : tie.Need-is-inside-requires Inv-loop μ-loop
+is-inside-requires c κs = search needs
+
+returns : tie.Need-returns Inv-loop μ-loop
+returns c =
+    let p = c .before .before .before .before .before .before .before .pre in
+    record { onward = search needs; within = p .4; inside = λ k l g. absurd (omega arith); left = p .7 }
+
+loop-holds : tie.Need-loop-holds Inv-loop μ-loop
+loop-holds c =
+    let p = c .before .before .before .before .before .before .before .pre in
+    (search needs, p .4, refl, λ k l g. absurd (omega arith), p .7)
+
+time-of-requires : tie.Need-time-of-requires Inv-loop μ-loop
+time-of-requires c κs =
+    let s = c .before .before .before .before .before .before .before .before .before in
+    reaches-less (s .args .source) (s .args .x .now) (s .args .n) (c .before .loop .j + 1) (s .pre .6) (omega arith)
+
+stays-requires : tie.Need-stays-requires Inv-loop μ-loop
+stays-requires c κs =
+    let l = inside-within _ _ (sym (c .before .before .before .before .is-inside .ensures) ∙ not-false _ (c .before .before .before .if1 .left)) in
+    omega (arith, c .before .before .before .before .before .before .before .before .before .before .pre .3)
+
+same-length : tie.Need-same-length Inv-loop μ-loop
+same-length c = search needs
+
+returns-2 : tie.Need-returns-2 Inv-loop μ-loop
+returns-2 c =
+    let l = c .before .before .before .before .loop .inv in
+    record { onward = l .0; within = l .1; inside = l .3; left = l .4 }
+
+inside-requires : tie.Need-inside-requires Inv-loop μ-loop
+inside-requires c κs = search needs
+
+mul-out : tie.Need-mul-out Inv-loop μ-loop
+mul-out c = search needs
+
+slice-write-out : tie.Need-slice-write-out Inv-loop μ-loop
+slice-write-out c = search needs
+
+add-j : tie.Need-add-j Inv-loop μ-loop
+add-j c = search needs
+
+loop-less : tie.Need-loop-less Inv-loop μ-loop
+loop-less c = search needs
+
+loop-again : tie.Need-loop-again Inv-loop μ-loop
+loop-again c =
+    let l = c .before .before .before .before .before .loop .inv in
+    let p = c .before .before .before .before .before .before .before .before .before .before .before .before .before .pre in
+    let o = sym (c .before .before .before .before .before .before .before .is-inside .ensures) ∙ not-false _ (c .before .before .before .before .before .before .if1 .left) in
+    let v = c .before .before .before .time-of .ensures in
+    let y = sym (c .before .before .stays .ensures) ∙ not-false _ (c .before .if2 .left) in
+    let i = stays-inside _ _ _ _ _ (p .2) (p .3) o y in (
+      search needs,
+      search needs,
+      simp length-set (l .2),
+      inside-more _ _ _ _ (l .3) (rw v at i),
+      fill-turn _ _ _ _ _ (omega arith) (l .4) (rw v at (c .inside .ensures ∙ station-held _ _ _ _ _ (p .0) (same-interval _ _ _ _ _ (p .2) (p .3) o y) (p .2) i)),
+    )
+
+same-length-2 : tie.Need-same-length-2 Inv-loop μ-loop
+same-length-2 c = search needs
+
+returns-3 : tie.Need-returns-3 Inv-loop μ-loop
+returns-3 c =
+    let l = c .before .loop .inv in
+    record { onward = l .0; within = l .1; inside = l .3; left = l .4 }
+
+pub follow-spec : {M : Type 1} → statement M
+follow-spec =
+    tie.close
+    (tie.spec
+    Inv-loop
+    μ-loop
+    is-inside-requires
+    returns
+    loop-holds
+    time-of-requires
+    stays-requires
+    same-length
+    returns-2
+    inside-requires
+    mul-out
+    slice-write-out
+    add-j
+    loop-less
+    loop-again
+    same-length-2
+    returns-3)

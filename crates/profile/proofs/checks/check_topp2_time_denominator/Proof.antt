@@ -1,0 +1,38 @@
+-- `profile::checks::check_topp2_time_denominator` meets its contract. Assumes nothing.
+use borrow.Author.Needs.{needs}
+use Rattle.refusals.proofs.Chains.{tested, chained}
+use Rattle.profile.specs.Profile.{speedNo}
+use Rattle.profile.proofs.checks.check_topp2_time_denominator.Statement.{statement}
+use Rattle.profile.proofs.checks.check_topp2_time_denominator.Tie as tie
+
+every-pair-requires : tie.Need-every-pair-requires
+every-pair-requires c κs = search needs
+
+unless-requires : tie.Need-unless-requires
+unless-requires c κs = search needs
+
+every-entry-requires : tie.Need-every-entry-requires
+every-entry-requires c κs = search needs
+
+unless-requires-2 : tie.Need-unless-requires-2
+unless-requires-2 c κs = search needs
+
+or-requires : tie.Need-or-requires
+or-requires c κs = search needs
+
+returns : tie.Need-returns
+unfolding speedNo
+returns c =
+    let p = c .before .before in
+    chained 17 (c .or .ensures) (c .before .unless2 .ensures) (p .every-entry .ensures) (tested 18 (p .before .unless .ensures) (p .before .before .every-pair .ensures))
+
+pub check-topp2-time-denominator-spec : {M : Type 1} → statement M
+check-topp2-time-denominator-spec =
+    tie.close
+    (tie.spec
+    every-pair-requires
+    unless-requires
+    every-entry-requires
+    unless-requires-2
+    or-requires
+    returns)
