@@ -244,7 +244,7 @@ fn sqrt(side: Side, n: usize) {
     match side {
         Side::Original => leaf(n, |x, _| x.sqrt().to_bits()),
         // SAFETY: the leaves take and return numbers only.
-        Side::Plain | Side::Library => leaf(n, |x, _| unsafe { malikoza_sqrt(x.to_bits()) }),
+        Side::Library => leaf(n, |x, _| unsafe { malikoza_sqrt(x.to_bits()) }),
     }
 }
 
@@ -252,7 +252,7 @@ fn fma(side: Side, n: usize) {
     match side {
         Side::Original => leaf(n, |x, y| x.mul_add(y, x).to_bits()),
         // SAFETY: as above.
-        Side::Plain | Side::Library => leaf(n, |x, y| unsafe { malikoza_fma(x.to_bits(), y.to_bits(), x.to_bits()) }),
+        Side::Library => leaf(n, |x, y| unsafe { malikoza_fma(x.to_bits(), y.to_bits(), x.to_bits()) }),
     }
 }
 
@@ -260,6 +260,6 @@ fn hypot(side: Side, n: usize) {
     match side {
         Side::Original => leaf(n, |x, y| x.hypot(y).to_bits()),
         // SAFETY: as above.
-        Side::Plain | Side::Library => leaf(n, |x, y| unsafe { malikoza_hypot(x.to_bits(), y.to_bits()) }),
+        Side::Library => leaf(n, |x, y| unsafe { malikoza_hypot(x.to_bits(), y.to_bits()) }),
     }
 }
