@@ -5,6 +5,7 @@ use borrow.Author.Needs.{needs}
 use lib.Ieee.Scale.{finite}
 use Rattle.interpolation.specs.Times.{timesFinite}
 use Rattle.interpolation.specs.declared.times.Timed.the-variants.{Done}
+use Rattle.refusals.specs.Most.{mostStations}
 use Rattle.refusals.proofs.Outcomes.{refuses, succeeds}
 use Rattle.interpolation.proofs.Filled.{front-length, front-fits, front-entries, front-copied}
 use Rattle.interpolation.proofs.times.settle.Statement.{statement}
@@ -20,7 +21,7 @@ array-share-prefix-times : tie.Need-array-share-prefix-times
 array-share-prefix-times c = search needs
 
 slice-aggregate-every-entry : tie.Need-slice-aggregate-every-entry
-slice-aggregate-every-entry c = front-length _ 4096 _ (c .before .before .fill .kept .1 .1 .1 .0) (search needs)
+slice-aggregate-every-entry c = front-length _ mostStations _ (c .before .before .fill .kept .1 .1 .1 .0) (search needs)
 
 every-entry-requires : tie.Need-every-entry-requires
 every-entry-requires c κs = search needs
@@ -29,10 +30,13 @@ array-share-prefix-times-2 : tie.Need-array-share-prefix-times-2
 array-share-prefix-times-2 c = search needs
 
 slice-aggregate-copy : tie.Need-slice-aggregate-copy
-slice-aggregate-copy c = front-length _ 4096 _ (c .before .before .before .before .before .fill .kept .1 .1 .1 .0) (search needs)
+slice-aggregate-copy c = front-length _ mostStations _ (c .before .before .before .before .before .fill .kept .1 .1 .1 .0) (search needs)
 
 copy-requires : tie.Need-copy-requires
-copy-requires c κs = front-fits _ 4096 _ _ (c .before .before .before .before .before .before .fill .kept .1 .1 .1 .0) (c .before .before .before .before .before .before .before .before .before .before .before .pre .2) (c .before .before .before .before .before .before .before .before .before .before .before .pre .3)
+copy-requires c κs =
+    let f = c .before .before .before .before .before .before in
+    let e = f .before .before .before .before .before in
+    front-fits _ mostStations _ _ (f .fill .kept .1 .1 .1 .0) (e .pre .2) (e .pre .3)
 
 same-length : tie.Need-same-length
 same-length c = search needs
@@ -40,8 +44,9 @@ same-length c = search needs
 returns : tie.Need-returns
 unfolding timesFinite
 returns c =
-    let f = c .before .before .before .before .before .before .before .before .before .fill .ensures in
-    let w = sym (front-entries _ _ _ _ (f .1) finite) ∙ sym (c .before .before .before .before .before .before .every-entry .ensures) ∙ c .before .before .before .before .before .if1 .taken in
+    let d = c .before .before .before .before .before in
+    let f = d .before .before .before .before .fill .ensures in
+    let w = sym (front-entries _ _ _ _ (f .1) finite) ∙ sym (d .before .every-entry .ensures) ∙ d .if1 .taken in
     succeeds (rw w refl) (ap Done (f .0)) (c .before .before .copy .ensures ∙ front-copied _ _ _ _ (f .1) _)
 
 returns-2 : tie.Need-returns-2
