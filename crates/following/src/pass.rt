@@ -247,6 +247,10 @@ pub fn t_to_s_topp2_core(
 {
     if in_step(s.len(), a.len(), t.len()) {
         if in_room(n, out.len(), reaches(source, x.len(), n)) {
+            // What is called from one place is built into its caller, and the walk then runs short of registers: hence two calls.
+            if n < most::SAMPLES {
+                return walked(s, a, t, source, x, n, out);
+            }
             return walked(s, a, t, source, x, n, out);
         }
     }

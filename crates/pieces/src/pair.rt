@@ -15,11 +15,12 @@ pub struct Piece {
 pub fn piece_of(s0: f64, s1: f64, a0: f64, a1: f64, t0: f64) -> Piece
     ensures { λ r. ⌜ r ≡ pieceOf s0 s1 a0 a1 t0 ⌝ }
 {
+    let c1 = (a1 - a0) / (s1 - s0);
     Piece {
         station: s0,
         time: t0,
         root: square_root::sqrt(a0),
-        c1: (a1 - a0) / (s1 - s0),
+        c1,
     }
 }
 

@@ -50,7 +50,13 @@ fn after_neighbours(q: Request, table: &[f64], s: Span, near: Near) -> Answer
             worst_raw,
             tried,
         },
-        Near::ToMiddle(tried) => halving::try_middle(q, table, s, tried),
+        // What is called from one place is built into its caller, and the halvings then run short of registers: hence two calls.
+        Near::ToMiddle(tried) => {
+            if tried == 6 {
+                return halving::try_middle(q, table, s, 6);
+            }
+            halving::try_middle(q, table, s, tried)
+        }
     }
 }
 

@@ -17,7 +17,7 @@ in-room-requires c κs = search needs
 
 walked-requires : tie.Need-walked-requires
 walked-requires c κs =
-    let r = c .before in
+    let r = c .before .before in
     let p = r .before .before .before in
     let a = p .before .before .before .before .before .before .before .args in
     let step = in-step _ _ _ (sym (p .before .in-step .ensures) ∙ p .if1 .taken) in
@@ -29,7 +29,7 @@ same-length c = search needs
 
 returns : tie.Need-returns
 returns c =
-    let r = c .before .before .before .before in
+    let r = c .before .before .before .before .before in
     let p = r .before .before .before in
     let a = p .before .before .before .before .before .before .before .args in
     let room = rw (r .before .before .reaches .ensures) at (sym (r .before .in-room .ensures) ∙ r .if2 .taken) in
@@ -37,16 +37,38 @@ returns c =
     let f = c .before .before .walked .ensures in
     record { counts = rw e (f .0); left = rw e (f .1) }
 
+walked-requires-2 : tie.Need-walked-requires-2
+walked-requires-2 c κs =
+    let r = c .before .before in
+    let p = r .before .before .before in
+    let a = p .before .before .before .before .before .before .before .args in
+    let step = in-step _ _ _ (sym (p .before .in-step .ensures) ∙ p .if1 .taken) in
+    let room = in-room (a .source) (a .x .now) _ _ (rw (r .before .before .reaches .ensures) at (sym (r .before .in-room .ensures) ∙ r .if2 .taken)) in
+    (step .0, step .1, step .2, room .0, room .1, room .2)
+
+same-length-2 : tie.Need-same-length-2
+same-length-2 c = search needs
+
 returns-2 : tie.Need-returns-2
 returns-2 c =
+    let r = c .before .before .before .before .before in
+    let p = r .before .before .before in
+    let a = p .before .before .before .before .before .before .before .args in
+    let room = rw (r .before .before .reaches .ensures) at (sym (r .before .in-room .ensures) ∙ r .if2 .taken) in
+    let e = fits-by-room (a .s .now) (a .a .now) (a .t .now) (a .source) (a .x .now) (a .n) (length (a .out .now)) _ (sym (p .before .in-step .ensures) ∙ p .if1 .taken) room in
+    let f = c .before .before .walked2 .ensures in
+    record { counts = rw e (f .0); left = rw e (f .1) }
+
+returns-3 : tie.Need-returns-3
+returns-3 c =
     let p = c .before .before .before in
     let a = p .before .before .before .before .before .before .before .args in
     let room = rw (c .before .before .reaches .ensures) at (sym (c .before .in-room .ensures) ∙ c .if2 .left) in
     let e = fits-by-room (a .s .now) (a .a .now) (a .t .now) (a .source) (a .x .now) (a .n) (length (a .out .now)) _ (sym (p .before .in-step .ensures) ∙ p .if1 .taken) room in
     record { counts = rw e (counts-none _ _); left = rw e refl }
 
-returns-3 : tie.Need-returns-3
-returns-3 c =
+returns-4 : tie.Need-returns-4
+returns-4 c =
     let a = c .before .before .before .before .before .before .before .args in
     let e = out-of-step (a .s .now) (a .a .now) (a .t .now) (a .source) (a .x .now) (a .n) (length (a .out .now)) (sym (c .before .in-step .ensures) ∙ c .if1 .left) in
     record { counts = rw e (counts-none _ _); left = rw e refl }
@@ -61,5 +83,8 @@ t-to-s-topp2-core-spec =
     walked-requires
     same-length
     returns
+    walked-requires-2
+    same-length-2
     returns-2
-    returns-3)
+    returns-3
+    returns-4)
