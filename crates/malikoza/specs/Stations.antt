@@ -1,4 +1,4 @@
--- What the t to s entries reply: 01's number and counts for each case of the answer, and the output.
+-- What the t to s entries leave: the reply to the answer, and the output.
 use Prim.Native.Nat.{ℕ, _*_}
 use mathlib.Core.Path.{_≡_}
 use mathlib.Core.Bool.{Bool, not}
@@ -10,41 +10,12 @@ use Rattle.loops.specs.Upto.{filled}
 use Rattle.refusals.specs.Refusals.{onlyIf}
 use Rattle.refusals.specs.Outcome.{answered}
 use Rattle.following.specs.declared.pass.Counts.{Counts}
-use Rattle.sampling.specs.declared.samples.Sampled.{Sampled}
 use Rattle.sampling.specs.declared.samples.Sampled.the-variants.{Done, Refused}
 use Rattle.sampling.specs.Grid.{gridEntry, gridEntries}
 use Rattle.byte_lists.specs.Bytes.{doublesOf, byteOf}
 use Rattle.byte_samples.specs.ByteSamples.{listCounts, listStation, listByteNo}
 use Rattle.byte_grids.specs.ByteGrids.{gridCounts, gridByteNo}
-
--- 01's number and values for each case of the answer: a refusal leaves what there was
-abbrev pub sampledNumber : Sampled → ℕ
-sampledNumber (Done c) = 0
-sampledNumber (Refused k) = k
-
-abbrev pub beforeOf : Sampled → ℕ → ℕ
-beforeOf (Done c) old = c .before
-beforeOf (Refused k) old = old
-
-abbrev pub insideOf : Sampled → ℕ → ℕ
-insideOf (Done c) old = c .inside
-insideOf (Refused k) old = old
-
-abbrev pub pastOf : Sampled → ℕ → ℕ
-pastOf (Done c) old = c .past
-pastOf (Refused k) old = old
-
-abbrev pub writtenOf : Sampled → ℕ → ℕ
-writtenOf (Done c) old = c .written
-writtenOf (Refused k) old = old
-
--- the reply to an answer: the number, and each lent count before and after
-pub record Counted (a : Sampled) (number before₀ before inside₀ inside past₀ past written₀ written : ℕ) : Type 0 where
-  pub number-is : number ≡ sampledNumber a
-  pub before-is : before ≡ beforeOf a before₀
-  pub inside-is : inside ≡ insideOf a inside₀
-  pub past-is : past ≡ pastOf a past₀
-  pub written-is : written ≡ writtenOf a written₀
+use Rattle.replies.specs.Samples.{Counted}
 
 -- what a call leaves: its number and counts, and the bytes of the first n entries at the front of the output
 pub record Tallied (done : Counts) (refusal : ℕ) (entry : ℕ → Float) (n : ℕ) (old : List ℕ) (number before₀ before inside₀ inside past₀ past written₀ written : ℕ) (new : List ℕ) : Type 0 where

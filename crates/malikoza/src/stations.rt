@@ -4,10 +4,10 @@ use byte_samples::list::t_to_s_list;
 use conversions::slopes::a_to_b;
 use conversions::times::s_to_t;
 use number::pattern::double_of;
-use sampling::samples::Sampled;
+use replies::samples::tell;
 ghost use lib.Ieee.{binary64, ofBits};
 ghost use Rattle.conversions.specs.Replies.{ByteSlopes, ByteTimes};
-ghost use Rattle.malikoza.specs.Stations.{Counted, ListTallied, GridTallied, yes};
+ghost use Rattle.malikoza.specs.Stations.{ListTallied, GridTallied, yes};
 
 // One entry fewer than stations.
 #[no_mangle]
@@ -25,28 +25,6 @@ pub extern "C" fn malikoza_s_to_t(s: &[u8], a: &[u8], t0: u64, out: &mut [u8]) -
     s_to_t(s, a, double_of(t0), out)
 }
 
-// The number of an answer; its counts go to the lent numbers.
-pub fn tell(
-    a: Sampled,
-    before: &mut u64,
-    inside: &mut u64,
-    past: &mut u64,
-    written: &mut u64,
-) -> u64
-    ensures { λ r. ⌜ Counted a r (now (before .entry)) (now (before .exit)) (now (inside .entry)) (now (inside .exit)) (now (past .entry)) (now (past .exit)) (now (written .entry)) (now (written .exit)) ⌝ }
-{
-    match a {
-        Sampled::Done(c) => {
-            *before = c.before as u64;
-            *inside = c.inside as u64;
-            *past = c.past as u64;
-            *written = c.written as u64;
-            0
-        }
-        Sampled::Refused(k) => k,
-    }
-}
-
 // One entry for each sample.
 #[no_mangle]
 pub extern "C" fn malikoza_t_to_s_list(
@@ -61,7 +39,11 @@ pub extern "C" fn malikoza_t_to_s_list(
     written: &mut u64,
 ) -> u64
     ensures { λ r. ⌜ ListTallied (now (s .entry)) (now (a .entry)) (now (t .entry)) (now (x .entry)) (now (out .entry)) r
-        (now (before .entry)) (now (before .exit)) (now (inside .entry)) (now (inside .exit)) (now (past .entry)) (now (past .exit)) (now (written .entry)) (now (written .exit)) (now (out .exit)) ⌝ }
+        (now (before .entry)) (now (before .exit))
+        (now (inside .entry)) (now (inside .exit))
+        (now (past .entry)) (now (past .exit))
+        (now (written .entry)) (now (written .exit))
+        (now (out .exit)) ⌝ }
 {
     let found = t_to_s_list(s, a, t, x, out);
     tell(found, before, inside, past, written)
@@ -82,8 +64,13 @@ pub extern "C" fn malikoza_t_to_s_grid(
     past: &mut u64,
     written: &mut u64,
 ) -> u64
-    ensures { λ r. ⌜ GridTallied (now (s .entry)) (now (a .entry)) (now (t .entry)) (ofBits binary64 t0) (ofBits binary64 dt) (yes «with_final») (now (out .entry)) r
-        (now (before .entry)) (now (before .exit)) (now (inside .entry)) (now (inside .exit)) (now (past .entry)) (now (past .exit)) (now (written .entry)) (now (written .exit)) (now (out .exit)) ⌝ }
+    ensures { λ r. ⌜ GridTallied (now (s .entry)) (now (a .entry)) (now (t .entry))
+        (ofBits binary64 t0) (ofBits binary64 dt) (yes «with_final») (now (out .entry)) r
+        (now (before .entry)) (now (before .exit))
+        (now (inside .entry)) (now (inside .exit))
+        (now (past .entry)) (now (past .exit))
+        (now (written .entry)) (now (written .exit))
+        (now (out .exit)) ⌝ }
 {
     let found = t_to_s_grid(s, a, t, double_of(t0), double_of(dt), with_final != 0, out);
     tell(found, before, inside, past, written)

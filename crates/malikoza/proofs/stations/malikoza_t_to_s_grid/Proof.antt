@@ -18,7 +18,10 @@ same-length : tie.Need-same-length
 same-length c = search needs
 
 returns : tie.Need-returns
-returns c = let o = rw (c .before .before .before .before .before .before .before .before .before .before .double-of .ensures, c .before .before .before .before .before .before .before .before .before .double-of2 .ensures) at (c .before .before .before .before .before .before .before .t-to-s-grid .ensures) in
+returns c =
+    let grid = c .before .before .before .before .before .before .before in
+    let dt = grid .before .before in
+    let o = rw (dt .before .double-of .ensures, dt .double-of2 .ensures) at (grid .t-to-s-grid .ensures) in
     record { counted = rw (o .answer) at (c .tell .ensures); left = o .left }
 
 pub malikoza-t-to-s-grid-spec : {M : Type 1} → statement M

@@ -1,6 +1,6 @@
 use borrow.Author.Needs.{needs}
-use Rattle.malikoza.proofs.stations.tell.Statement.{statement}
-use Rattle.malikoza.proofs.stations.tell.Tie as tie
+use Rattle.replies.proofs.samples.tell.Statement.{statement}
+use Rattle.replies.proofs.samples.tell.Tie as tie
 
 enum-known-a : tie.Need-enum-known-a
 enum-known-a c = search needs
