@@ -1,16 +1,17 @@
 // One case: the usual call of an entry with the line's changes, and whether all that it returns and leaves is as the line says.
 use crate::letters;
+use crate::lists::HEAD;
+use crate::lists::apply;
+use crate::lists::bytes_of;
 use crate::usual::prepare;
+use bytes::copy;
 use calls::comparing::agrees;
 use calls::comparing::mark;
-use calls::comparing::same;
+use check::same;
 use words::bytes::put;
 use words::bytes::within;
 use words::bytes::word;
-use words::lists::HEAD;
-use words::lists::apply;
-use words::lists::bytes_of;
-use words::text::between;
+use words::text::part_of;
 ghost use mathlib.Core.Path.{_≡_};
 ghost use lib.ListN.{length};
 
@@ -96,25 +97,12 @@ fn lay_told(case: &mut [u8], number: u64, line: &[u8]) {
     lay(case, 144, letters::LENT, 32, line);
 }
 
-// The first n bytes of x, at the front of y, as far as both go.
-fn copy(x: &[u8], n: usize, y: &mut [u8]) {
-    let mut i = 0;
-    while i < n {
-        if x.len() <= i {
-            return;
-        }
-        if y.len() <= i {
-            return;
-        }
-        y[i] = x[i];
-        i += 1;
-    }
-}
-
 // What is lent stays past the front; of the front the line says the entries, or some of them.
 fn expect(out: &[u8], line: &[u8], whole: &mut [u8]) {
     mark(whole);
-    copy(out, bytes_of(line, letters::FRONT, 0), whole);
+    let both = within(out.len() as u64, whole.len());
+    let n = within(bytes_of(line, letters::FRONT, 0) as u64, both);
+    copy(&out[0..n], whole);
     apply(whole, letters::ENTRIES, line);
 }
 
@@ -130,7 +118,7 @@ fn is_left(out: &[u8], line: &[u8]) -> bool {
 }
 
 fn is_answered(case: &[u8], line: &[u8], out: &mut [u8]) -> bool {
-    if agrees(case, between(case, 136, 176), out) {
+    if agrees(case, part_of(case, 136, 176), out) {
         return is_left(out, line);
     }
     false
