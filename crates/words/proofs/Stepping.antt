@@ -1,6 +1,6 @@
 -- One more turn of the loops over bytes: one byte more of a number is put, one byte more belongs to a run.
 use Prim.Native.Nat.{ℕ, suc, _+_, _*_, _-_, _/_, _%_, _<_, _≤_}
-use mathlib.Core.Path.{_≡_, refl}
+use mathlib.Core.Path.{_≡_}
 use mathlib.Core.Bool.{true, false}
 use mathlib.Core.List.{List}
 use native.Mathlib.Nat.{add-assoc, div-div-eq-div-mul}

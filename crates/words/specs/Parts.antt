@@ -1,5 +1,5 @@
 -- Parts of bytes that may be anything: numbers of eight bytes each, runs and stretches of text. What lies past the end is neither read nor written.
-use Prim.Native.Nat.{ℕ, _+_, _*_, _-_, _/_}
+use Prim.Native.Nat.{ℕ, _*_, _-_, _/_}
 use mathlib.Core.Bool.{Bool, cond, not, _&&_}
 use mathlib.Core.List.{List}
 use lib.Dec.{eqb, leb, ltb}

@@ -1,5 +1,3 @@
-use Prim.Native.Nat.{ℕ, _+_, _*_, _^_}
-use mathlib.Core.Path.{_≡_}
 use native.Mathlib.Omega.{arith}
 use Rattle.words.specs.Parts.{numberAt}
 use borrow.Author.Needs.{needs}
