@@ -3,9 +3,15 @@ use crate::calling;
 use crate::calling::Told;
 use words::bytes::low_byte;
 use words::bytes::word;
+ghost use mathlib.Core.Path.{_≡_};
+ghost use lib.ListN.{length};
+ghost use Rattle.loops.specs.Upto.{filled};
+ghost use Rattle.calls.specs.Marks.{markAt};
 
 // What the output holds before a call: something else at each place, so that bytes moved within it are seen as well.
-pub fn mark(out: &mut [u8]) {
+pub fn mark(out: &mut [u8])
+    ensures { λ _. ⌜ now (out .exit) ≡ filled markAt (length (now (out .entry))) (now (out .entry)) ⌝ }
+{
     let mut sum = 0;
     let mut i = 0;
     while i < out.len() {
@@ -13,20 +19,6 @@ pub fn mark(out: &mut [u8]) {
         sum = std::num::wrapping_add_u64(sum, 0x9e37_79b9);
         i += 1;
     }
-}
-
-pub fn same(x: &[u8], y: &[u8]) -> bool {
-    if x.len() != y.len() {
-        return false;
-    }
-    let mut i = 0;
-    while i < x.len() {
-        if x[i] != y[i] {
-            return false;
-        }
-        i += 1;
-    }
-    true
 }
 
 // Five numbers: what the call must return, and the lent numbers after it.

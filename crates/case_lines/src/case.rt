@@ -1,20 +1,19 @@
 // One case: the usual call of an entry with the line's changes, and whether all that it returns and leaves is as the line says.
 use crate::letters;
+use crate::lists::HEAD;
+use crate::lists::apply;
+use crate::lists::bytes_of;
 use crate::usual::prepare;
+use bytes::copy;
 use calls::comparing::agrees;
 use calls::comparing::mark;
-use calls::comparing::same;
+use check::same;
 use words::bytes::put;
 use words::bytes::within;
 use words::bytes::word;
-use words::lists::HEAD;
-use words::lists::apply;
-use words::lists::bytes_of;
-use words::text::between;
+use words::text::part_of;
 ghost use mathlib.Core.Path.{_≡_};
 ghost use lib.ListN.{length};
-
-const RECOVERY: u64 = 8;
 
 // Room for the longest case: 22 numbers, three lists of 4,097 doubles and one of 65,537, each with part of one more; and for any output.
 fn sheet() -> [u8; 622_848]
@@ -35,59 +34,34 @@ fn lay(case: &mut [u8], from: usize, list: u64, bytes: usize, line: &[u8]) -> us
     end
 }
 
-// Number k of the case is the place where the list ends.
-fn lay_list(case: &mut [u8], from: usize, k: usize, list: u64, bytes: usize, line: &[u8]) -> usize {
-    let end = lay(case, from, list, bytes, line);
+// A list, as long as its letter of lengths says; number k of the case is the place where it ends.
+fn lay_list(
+    case: &mut [u8],
+    from: usize,
+    k: usize,
+    list: u64,
+    length: u64,
+    n: u64,
+    line: &[u8],
+) -> usize {
+    let end = lay(case, from, list, bytes_of(line, length, n), line);
     put(case, k, end as u64);
     end
 }
 
 // Behind the case's 22 numbers.
 fn lay_lists(case: &mut [u8], first: u64, n: u64, line: &[u8]) {
-    let s = lay_list(
-        case,
-        176,
-        12,
-        first,
-        bytes_of(line, letters::LEN_S, n),
-        line,
-    );
-    let a = lay_list(
-        case,
-        s,
-        13,
-        letters::A,
-        bytes_of(line, letters::LEN_A, n),
-        line,
-    );
-    let t = lay_list(
-        case,
-        a,
-        14,
-        letters::T,
-        bytes_of(line, letters::LEN_T, n),
-        line,
-    );
-    lay_list(
-        case,
-        t,
-        15,
-        letters::X,
-        bytes_of(line, letters::LEN_X, 3),
-        line,
-    );
+    let s = lay_list(case, 176, 12, first, letters::LEN_S, n, line);
+    let a = lay_list(case, s, 13, letters::A, letters::LEN_A, n, line);
+    let t = lay_list(case, a, 14, letters::T, letters::LEN_T, n, line);
+    lay_list(case, t, 15, letters::X, letters::LEN_X, 3, line);
 }
 
 // The numbers that the entry is passed, from number 2 on, and the lists.
 fn lay_call(case: &mut [u8], entry: u64, n: u64, line: &[u8]) {
     put(case, 1, entry);
-    if entry == RECOVERY {
-        lay(case, 16, letters::REQUEST, 80, line);
-        lay_lists(case, letters::ROWS, n, line);
-    } else {
-        lay(case, 16, letters::PASSED, 80, line);
-        lay_lists(case, letters::S, n, line);
-    }
+    lay(case, 16, letters::passed(entry), 80, line);
+    lay_lists(case, letters::first_list(entry), n, line);
 }
 
 // The numbers 17 to 21: what the call must return, and the lent numbers after it.
@@ -96,55 +70,34 @@ fn lay_told(case: &mut [u8], number: u64, line: &[u8]) {
     lay(case, 144, letters::LENT, 32, line);
 }
 
-// The first n bytes of x, at the front of y, as far as both go.
-fn copy(x: &[u8], n: usize, y: &mut [u8]) {
-    let mut i = 0;
-    while i < n {
-        if x.len() <= i {
-            return;
-        }
-        if y.len() <= i {
-            return;
-        }
-        y[i] = x[i];
-        i += 1;
-    }
-}
-
 // What is lent stays past the front; of the front the line says the entries, or some of them.
-fn expect(out: &[u8], line: &[u8], whole: &mut [u8]) {
-    mark(whole);
-    copy(out, bytes_of(line, letters::FRONT, 0), whole);
-    apply(whole, letters::ENTRIES, line);
-}
-
 fn is_expected(out: &[u8], line: &[u8], whole: &mut [u8]) -> bool {
-    let n = within(out.len() as u64, whole.len());
-    expect(out, line, &mut whole[0..n]);
-    same(out, &whole[0..n])
+    mark(whole);
+    let both = within(out.len() as u64, whole.len());
+    let n = within(bytes_of(line, letters::FRONT, 0) as u64, both);
+    copy(&out[0..n], whole);
+    apply(whole, letters::ENTRIES, line);
+    same(out, whole)
 }
 
 fn is_left(out: &[u8], line: &[u8]) -> bool {
     let mut whole = sheet();
-    is_expected(out, line, &mut whole)
+    let n = within(out.len() as u64, whole.len());
+    is_expected(out, line, &mut whole[0..n])
 }
 
 fn is_answered(case: &[u8], line: &[u8], out: &mut [u8]) -> bool {
-    if agrees(case, between(case, 136, 176), out) {
+    if agrees(case, part_of(case, 136, 176), out) {
         return is_left(out, line);
     }
     false
 }
 
 // 4 doubles of output are lent, but where the line changes it.
-fn is_answered_in(case: &[u8], line: &[u8], out: &mut [u8]) -> bool {
-    let n = within(bytes_of(line, letters::LEN_OUT, 4) as u64, out.len());
-    is_answered(case, line, &mut out[0..n])
-}
-
 fn answered(case: &[u8], line: &[u8]) -> bool {
     let mut out = sheet();
-    is_answered_in(case, line, &mut out)
+    let n = within(bytes_of(line, letters::LEN_OUT, 4) as u64, out.len());
+    is_answered(case, line, &mut out[0..n])
 }
 
 fn built(case: &mut [u8], head: &[u8], line: &[u8]) -> bool {

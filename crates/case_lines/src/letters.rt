@@ -1,5 +1,7 @@
 // The letters of a line: each begins the numbers of its list. Before the first stand the entry, what it returns, and how many doubles the lists of rows,
 // stations, speeds and times have.
+const RECOVERY: u64 = 8;
+
 // The numbers that the entry is passed; recovery's have a letter of their own.
 pub(crate) const PASSED: u64 = b'p' as u64;
 
@@ -33,3 +35,11 @@ pub(crate) const LENT: u64 = b'n' as u64;
 pub(crate) const FRONT: u64 = b'u' as u64;
 
 pub(crate) const ENTRIES: u64 = b'e' as u64;
+
+pub(crate) fn passed(entry: u64) -> u64 {
+    if entry == RECOVERY { REQUEST } else { PASSED }
+}
+
+pub(crate) fn first_list(entry: u64) -> u64 {
+    if entry == RECOVERY { ROWS } else { S }
+}

@@ -1,6 +1,8 @@
 // Cases as lines of text: each is read, called and compared, and told by its name.
 mod case;
 mod letters;
+mod lists;
+mod numerals;
 mod table;
 mod usual;
 

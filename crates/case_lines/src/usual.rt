@@ -1,9 +1,9 @@
 // The usual call, which a line changes.
 use crate::letters;
+use crate::lists::apply;
 use calls::calling;
 use number::pattern::pattern_of;
 use words::bytes::put;
-use words::lists::apply;
 
 // Document 01's: a_prev 1, previous [0, 4] cap 9, current [0, 4] cap 3, tolerances 0.
 fn request(k: u64) -> f64 {

@@ -1,6 +1,6 @@
 // Whether a call leaves behind what was recorded: its number, the lent numbers, and the whole output, so that what lies past the written front is held too.
 use calls::comparing::agrees;
-use calls::comparing::same;
+use check::same;
 use words::bytes::within;
 use words::bytes::word;
 

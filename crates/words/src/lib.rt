@@ -1,4 +1,3 @@
-// Numbers in bytes and in text. It serves the programs that run cases; nothing is asked of what it reads.
+// Numbers and text in bytes. It serves the programs that run cases; nothing is asked of what it reads.
 pub mod bytes;
-pub mod lists;
 pub mod text;

@@ -1,28 +1,32 @@
-// The words of a line, and the numbers that they stand for.
-use number::pattern::pattern_of;
+// Runs of bytes in a text, and its parts.
 ghost use Prim.Native.Nat.{_≤_};
+ghost use mathlib.Core.Path.{_≡_};
+ghost use lib.ListN.{getD};
+ghost use Rattle.words.specs.Parts.{belongs, runEnd, partOf};
 
 // What a run is made of: all up to the line's end, spaces, or a word's bytes.
-pub const LINE: u64 = 0;
+pub enum Run {
+    Line,
+    Space,
+    Word,
+}
 
-pub const SPACE: u64 = 1;
-
-pub const WORD: u64 = 2;
-
-fn belongs(c: u8, run: u64) -> bool {
+fn belongs(run: Run, c: u8) -> bool
+    ensures { λ r. ⌜ r ≡ belongs run c ⌝ }
+{
     match run {
-        0 => c != b'\n',
-        1 => c == b' ',
-        _ => b' ' < c,
+        Run::Line => c != b'\n',
+        Run::Space => c == b' ',
+        Run::Word => b' ' < c,
     }
 }
 
-pub fn run_end(text: &[u8], from: usize, run: u64) -> usize
-    ensures { λ r. ⌜ from ≤ r ⌝ }
+pub fn run_end(text: &[u8], from: usize, run: Run) -> usize
+    ensures { λ r. ⌜ (r ≡ runEnd (now (text .entry)) from run) × (from ≤ r) ⌝ }
 {
     let mut i = from;
     while i < text.len() {
-        if belongs(text[i], run) {
+        if belongs(run, text[i]) {
             i += 1;
         } else {
             return i;
@@ -31,7 +35,9 @@ pub fn run_end(text: &[u8], from: usize, run: u64) -> usize
     i
 }
 
-pub fn between(text: &[u8], i: usize, e: usize) -> &[u8] {
+pub fn part_of(text: &[u8], i: usize, e: usize) -> &[u8]
+    ensures { λ r. ⌜ now r ≡ partOf (now (text .entry)) i e ⌝ }
+{
     if i <= e {
         if e <= text.len() {
             return &text[i..e];
@@ -40,81 +46,9 @@ pub fn between(text: &[u8], i: usize, e: usize) -> &[u8] {
     text
 }
 
-// A word's first byte.
-pub fn first(word: &[u8]) -> u8 {
-    if 0 < word.len() { word[0] } else { b' ' }
-}
-
-// The digits read so far; after a point also the power of ten that they are to be divided by, which is 0 before it.
-struct Partial {
-    value: u64,
-    hex: bool,
-    unit: u64,
-}
-
-fn digit(c: u8) -> u64 {
-    match c {
-        48..=57 => c as u64 - 48,
-        97..=102 => c as u64 - 87,
-        _ => 0,
-    }
-}
-
-// No number of a line is so long that digits are lost.
-fn shifted(value: u64, hex: bool) -> u64 {
-    if value < 0x1000_0000_0000_0000 {
-        return if hex { 16 * value } else { 10 * value };
-    }
-    0
-}
-
-fn grown(n: Partial, c: u8) -> Partial {
-    Partial {
-        value: std::num::wrapping_add_u64(shifted(n.value, n.hex), digit(c)),
-        hex: n.hex,
-        unit: shifted(n.unit, false),
-    }
-}
-
-fn read(n: Partial, c: u8) -> Partial {
-    match c {
-        b'#' => Partial {
-            value: 0,
-            hex: true,
-            unit: 0,
-        },
-        b'.' => Partial {
-            value: n.value,
-            hex: false,
-            unit: 1,
-        },
-        _ => grown(n, c),
-    }
-}
-
-fn digits(word: &[u8]) -> Partial {
-    let mut n = Partial {
-        value: 0,
-        hex: false,
-        unit: 0,
-    };
-    let mut i = 0;
-    while i < word.len() {
-        n = read(n, word[i]);
-        i += 1;
-    }
-    n
-}
-
-// Decimal digits; hexadecimal ones after a #; with a point the double's pattern, with a sign before it the negative one's.
-pub(crate) fn number(word: &[u8]) -> u64 {
-    let n = digits(word);
-    if n.unit == 0 {
-        return n.value;
-    }
-    let x = std::num::nearest_u64_to_f64(n.value) / std::num::nearest_u64_to_f64(n.unit);
-    if first(word) == b'-' {
-        return pattern_of(-x);
-    }
-    pattern_of(x)
+// A space where there is none.
+pub fn first_byte(text: &[u8]) -> u8
+    ensures { λ r. ⌜ r ≡ getD (now (text .entry)) 0 32 ⌝ }
+{
+    if 0 < text.len() { text[0] } else { b' ' }
 }

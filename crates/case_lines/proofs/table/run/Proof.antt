@@ -20,8 +20,8 @@ run-end-requires c κs = search needs
 returns : tie.Need-returns Inv-loop μ-loop
 returns c = omega arith
 
-between-requires : tie.Need-between-requires Inv-loop μ-loop
-between-requires c κs = search needs
+part-of-requires : tie.Need-part-of-requires Inv-loop μ-loop
+part-of-requires c κs = search needs
 
 case-requires : tie.Need-case-requires Inv-loop μ-loop
 case-requires c κs = search needs
@@ -50,7 +50,7 @@ run-spec =
     loop-holds
     run-end-requires
     returns
-    between-requires
+    part-of-requires
     case-requires
     wrapping-add-u64-requires
     add-i

@@ -2,8 +2,8 @@ use Prim.Native.Nat.{_≤_, _-_}
 use native.Mathlib.Omega.{arith}
 use lib.ListN.{length}
 use borrow.Author.Needs.{needs}
-use Rattle.words.proofs.text.digits.Statement.{statement}
-use Rattle.words.proofs.text.digits.Tie as tie
+use Rattle.case_lines.proofs.numerals.digits.Statement.{statement}
+use Rattle.case_lines.proofs.numerals.digits.Tie as tie
 
 abbrev Inv-loop : tie.InvT-loop
 Inv-loop word n₀ i₀ n i = i ≤ length word

@@ -1,13 +1,15 @@
 // Lists of numbers as bytes, and what a line of text says of them: letters, each with the numbers of its list from the first place on, or from the place
 // that @ names.
-use crate::bytes::put;
-use crate::bytes::word;
-use crate::text;
-use crate::text::first;
-use crate::text::run_end;
+use crate::numerals::number;
+use words::bytes::put;
+use words::bytes::word;
+use words::text::Run;
+use words::text::first_byte;
+use words::text::part_of;
+use words::text::run_end;
 
 // What stands before the first letter.
-pub const HEAD: u64 = 0;
+pub(crate) const HEAD: u64 = 0;
 
 // The letter that was read last, and the place of the next number.
 struct Spot {
@@ -17,16 +19,16 @@ struct Spot {
 
 // A number goes to the next place of the list that its letter stands for.
 fn enter(b: &mut [u8], list: u64, w: &[u8], spot: Spot) {
-    if first(w) <= b'9' {
+    if first_byte(w) <= b'9' {
         if spot.letter == list {
-            put(b, spot.place as usize, text::number(w));
+            put(b, spot.place as usize, number(w));
         }
     }
 }
 
 // A letter begins its list; @ names a place of it.
 fn after(w: &[u8], spot: Spot) -> Spot {
-    let c = first(w);
+    let c = first_byte(w);
     let letter = spot.letter;
     if c <= b'9' {
         return Spot {
@@ -37,7 +39,7 @@ fn after(w: &[u8], spot: Spot) -> Spot {
     if c == b'@' {
         return Spot {
             letter,
-            place: text::number(w),
+            place: number(w),
         };
     }
     Spot {
@@ -46,21 +48,21 @@ fn after(w: &[u8], spot: Spot) -> Spot {
     }
 }
 
-pub fn apply(b: &mut [u8], list: u64, line: &[u8]) {
+pub(crate) fn apply(b: &mut [u8], list: u64, line: &[u8]) {
     let mut spot = Spot {
         letter: HEAD,
         place: 0,
     };
-    let mut i = run_end(line, 0, text::SPACE);
+    let mut i = run_end(line, 0, Run::Space);
     while i < line.len() {
-        let e = run_end(line, i, text::WORD);
-        let w = text::between(line, i, e);
+        let e = run_end(line, i, Run::Word);
+        let w = part_of(line, i, e);
         enter(b, list, w, spot);
         if line.len() <= e {
             return;
         }
         spot = after(w, spot);
-        i = run_end(line, e + 1, text::SPACE);
+        i = run_end(line, e + 1, Run::Space);
     }
 }
 
@@ -74,7 +76,7 @@ fn bytes(doubles: u64, more: u64) -> usize {
 }
 
 // A list's length in bytes.
-pub fn bytes_of(line: &[u8], list: u64, usual: u64) -> usize {
+pub(crate) fn bytes_of(line: &[u8], list: u64, usual: u64) -> usize {
     let mut b = [0; 16];
     put(&mut b, 0, usual);
     apply(&mut b, list, line);

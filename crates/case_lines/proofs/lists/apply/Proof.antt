@@ -3,8 +3,8 @@ use mathlib.Core.Path.{_≡_}
 use native.Mathlib.Omega.{arith}
 use lib.ListN.{length}
 use borrow.Author.Needs.{needs}
-use Rattle.words.proofs.lists.apply.Statement.{statement}
-use Rattle.words.proofs.lists.apply.Tie as tie
+use Rattle.case_lines.proofs.lists.apply.Statement.{statement}
+use Rattle.case_lines.proofs.lists.apply.Tie as tie
 
 abbrev Inv-loop : tie.InvT-loop
 Inv-loop b₀ list line spot₀ i₀ b spot i = length b ≡ length b₀
@@ -21,8 +21,8 @@ loop-holds c = omega arith
 run-end-requires-2 : tie.Need-run-end-requires-2 Inv-loop μ-loop
 run-end-requires-2 c κs = search needs
 
-between-requires : tie.Need-between-requires Inv-loop μ-loop
-between-requires c κs = search needs
+part-of-requires : tie.Need-part-of-requires Inv-loop μ-loop
+part-of-requires c κs = search needs
 
 enter-requires : tie.Need-enter-requires Inv-loop μ-loop
 enter-requires c κs = search needs
@@ -63,7 +63,7 @@ apply-spec =
     run-end-requires
     loop-holds
     run-end-requires-2
-    between-requires
+    part-of-requires
     enter-requires
     same-length
     returns
