@@ -20,7 +20,7 @@ use Rattle.rows.specs.declared.reading.Reading.the-variants.{Unfit, Unmeetable,
 use Rattle.rows.specs.declared.judging.Judged.the-variants.{Broken, Fits}
 use Rattle.rows.proofs.Within.{one-truth, within-all}
 use Rattle.limits.specs.Certificate.{between, passes, worseNormalized, worseRaw, certificate}
-use Rattle.limits.specs.Counting.{counted, countedReading, countedRow}
+use Rattle.limits.specs.RowByRow.{counted, countedReading, countedRow}
 use Rattle.limits.specs.declared.request.Request.{Request}
 use Rattle.limits.specs.declared.certificate.Certificate.{Certificate}
 use Rattle.limits.specs.declared.certificate.Certificate.the-variants.{Passed, Failed}

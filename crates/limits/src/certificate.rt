@@ -11,7 +11,7 @@ ghost use mathlib.Core.Path.{_≡_};
 ghost use Rattle.number.specs.Doubles.{zero};
 ghost use Rattle.rows.specs.Rows.{rowsOf, fold};
 ghost use Rattle.limits.specs.Certificate.{between, certificate};
-ghost use Rattle.limits.specs.Counting.{counted, countedReading, countedRow};
+ghost use Rattle.limits.specs.RowByRow.{counted, countedReading, countedRow};
 
 // The worst figures over the rows where the speed passes.
 pub enum Certificate {

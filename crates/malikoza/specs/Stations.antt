@@ -15,7 +15,7 @@ use Rattle.sampling.specs.Grid.{gridEntry, gridEntries}
 use Rattle.byte_lists.specs.Bytes.{doublesOf, byteOf}
 use Rattle.byte_samples.specs.ByteSamples.{listCounts, listStation, listByteNo}
 use Rattle.byte_grids.specs.ByteGrids.{gridCounts, gridByteNo}
-use Rattle.replies.specs.Samples.{Counted}
+use Rattle.replies.specs.CountsTold.{Counted}
 
 -- what a call leaves: its number and counts, and the bytes of the first n entries at the front of the output
 pub record Tallied (done : Counts) (refusal : ℕ) (entry : ℕ → Float) (n : ℕ) (old : List ℕ) (number before₀ before inside₀ inside past₀ past written₀ written : ℕ) (new : List ℕ) : Type 0 where

@@ -4,7 +4,7 @@ use replies::recovery::request_of;
 use replies::recovery::station_of;
 use replies::recovery::tell;
 use replies::recovery::tolerances_of;
-ghost use Rattle.replies.specs.Recovery.{stationOf, tolerancesOf, requestOf};
+ghost use Rattle.replies.specs.AnswerTold.{stationOf, tolerancesOf, requestOf};
 ghost use Rattle.malikoza.specs.Recover.{Recovering};
 
 // Returns 0 and writes the four lent numbers, or returns the refusal number and writes nothing.

@@ -9,12 +9,11 @@ use native.Mathlib.Omega.{arith}
 use mathlib.Core.Bool.{Bool, true, false, not}
 use lib.Dec.{T, ltb, ltb→lt, nltb→le, lit<}
 use lib.Pow.{pow-add, pow-pos, pow-mono, ones-lt}
-use lib.Ieee.{size, nearest, round}
+use lib.Ieee.{size, nearest}
 use lib.Ieee.Digits.{size-reaches}
-use lib.Ieee.Fits.{two, nearest-le, kept-lt}
+use lib.Ieee.Fits.{nearest-le, kept-lt}
 use lib.Ieee.Nearest.{closest, nearest-ge}
 use lib.Ieee.Order.{drop, kept}
-use lib.Ieee.Scale.{overflow}
 use Rattle.rounding.proofs.Compare.{Cmp, cmp}
 use Rattle.rounding.proofs.Powers.{half-pow}
 

@@ -1,6 +1,6 @@
 -- One exact size has one nearest value only: a value that is `Nearest` is also `OnlyNearest`, so the statement of specs/Nearness admits no second answer.
 use mathlib.Core.Path.{_≡_, sym, ap, _∙_, subst}
-use mathlib.Core.Logic.{_⊎_, ⊎-elim}
+use mathlib.Core.Logic.{⊎-elim}
 use Prim.Native.Nat.{ℕ, suc, _+_, _*_, _%_, _^_, _≤_, _<_, compare, Ordering, Ordering·lt, Ordering·eq, Ordering·gt}
 use native.Mathlib.Nat.{add-comm, le-trans, le-of-lt, lt-irrefl, not-le-of-lt, mul-le-mul, mul-lt-mul-of-pos-right, eq-or-lt-of-le}
 use native.Mathlib.Omega.{arith}

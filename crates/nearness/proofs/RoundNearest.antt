@@ -13,7 +13,7 @@ use lib.Ieee.{Float, nan, inf, fin, Format, prec, emax, low, up, down, fits, uni
 use lib.Ieee.Fits.{two, two-le-pos, reach, and-l, and-r, round-is, round-fits}
 use lib.Ieee.Exact.{HasValue, units-val}
 use lib.Ieee.Order.{drop, kept}
-use lib.Ieee.Scale.{finite, overflow}
+use lib.Ieee.Scale.{overflow}
 use Rattle.number.specs.Units.{unitsOf}
 use Rattle.number.proofs.Patterns.{units-of-value}
 use Rattle.nearness.specs.Nearness.{Size, fraction, limit, Closest, Nearest}

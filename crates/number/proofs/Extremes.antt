@@ -2,7 +2,6 @@
 -- The greater is no less than a number. Assumes nothing.
 use mathlib.Core.Path.{_≡_, refl, sym, _∙_, subst, fun-ext}
 use mathlib.Core.Logic.{_⊎_, inl, inr}
-use mathlib.Core.List.{List, foldl}
 use mathlib.Core.Bool.{Bool, true, false, not, _&&_, _||_, cond}
 use Prim.Native.Nat.{_*_}
 use native.Mathlib.Omega.{arith}
@@ -13,7 +12,7 @@ use Rattle.number.specs.Leaves.{negative, countsBelow, minimum, maximum}
 use Rattle.number.proofs.Patterns.{one-value}
 use Rattle.number.proofs.Fractions.{or-l, or-r, or-split, le→AtMost}
 use Rattle.number.proofs.Order.{number, is-number, is-nan, no-nan, lt-le, eq-le, le-split, le-reflexive, le-transitive, lt-not-le, lt-or-le}
-use Rattle.number.proofs.Folds.{All, Within, TotalOrder, Semilattice, lesser, lesser-lattice, fold-same}
+use Rattle.number.proofs.Folds.{TotalOrder, Semilattice, lesser, lesser-lattice}
 
 -- ---- x counts no higher than y: y does not count below it
 

@@ -10,4 +10,4 @@ pub mod Neighbour
 pub mod Sizes
 pub mod Picks
 pub mod Downward
-pub mod Reading
+pub mod ReadBack

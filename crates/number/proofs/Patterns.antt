@@ -8,8 +8,8 @@ use native.Mathlib.Nat.{le-trans, le-of-eq, lt-of-lt-of-le, lt-of-not-le, lt-tra
 use native.Mathlib.Nat.{mul-assoc, mul-right-comm, mul-pos, mul-le-mul-left, mul-le-mul-right, mul-lt-mul-of-pos-right, div-add-mod', div-eq-of-lt, mod-eq-of-lt, mod-lt, mod-eq-sub-mod}
 use native.Mathlib.Nat.{add-mod-left, mul-add-mod-self-left, mul-div-cancel, mul-mod-left, div-lt-iff-lt-mul, pow-suc, pow-succ', zero-lt-suc, le-add-right}
 use native.Mathlib.Omega.{arith}
-use borrow.Author.Tests.{lt-ltb, le-ltb, le-leb, lt-leb, ne-eqb, eq-eqb}
-use lib.Dec.{T, leb, ltb, eqb, leb→le, nleb→lt, nltb→le}
+use borrow.Author.Tests.{le-ltb, le-leb, lt-leb, ne-eqb, eq-eqb}
+use lib.Dec.{T, leb, eqb, leb→le, nleb→lt, nltb→le}
 use lib.Pow.{pow-add, pow-pos, pow-mono, shr-mono}
 use lib.IntN.{ℤ}
 use lib.Ieee.{Float, nan, inf, fin, Format, prec, emax, low, up, down, size, odd, round, fits, isNan, hid, ones, top, ofFields, ofBits, nanBits, toBits}
@@ -23,7 +23,7 @@ use Rattle.number.specs.Units.{unitsOf}
 use Rattle.number.specs.Leaves.{negative}
 use Rattle.number.proofs.Fractions.{plusPart, minusPart}
 use Rattle.number.proofs.Rounded.{Rounds}
-use Rattle.number.proofs.Order.{holds, finite-number, not-nan, is-nan}
+use Rattle.number.proofs.Order.{finite-number, not-nan}
 
 -- ---- the size in units
 

@@ -12,7 +12,7 @@ use lib.Ieee.{Float, nan, inf, fin, binary64, up, down, ofBits}
 use lib.Ieee.Fits.{up-pos, down-pos}
 use lib.Ieee.Exact.{HasValue}
 use Rattle.number.proofs.Patterns.{sizeAt, tiny, sizes-rise, pattern-signed, infinite-signed}
-use Rattle.number.proofs.Reading.{nan-pattern}
+use Rattle.number.proofs.ReadBack.{nan-pattern}
 use Rattle.rounding.specs.Packing.{significand, exponent}
 use Rattle.rounding.proofs.Unpack.{significand-in, exponent-lt, code-field, code-exponent}
 use Rattle.operands.specs.SignAndSize.{isSpecial, signBit, magnitude, isNormal, Unpacked}

@@ -1,2 +1,2 @@
-pub mod Recovery
-pub mod Samples
+pub mod AnswerTold
+pub mod CountsTold

@@ -12,7 +12,7 @@ use topp2_ra::recovery::recover_forward_intersection;
 ghost use mathlib.Core.Path.{_≡_};
 ghost use Rattle.topp2_ra.specs.Recovery.{recovered};
 ghost use Rattle.byte_lists.specs.Bytes.{doublesOf};
-ghost use Rattle.replies.specs.Recovery.{stationOf, tolerancesOf, requestOf, recoveredBytes, Told};
+ghost use Rattle.replies.specs.AnswerTold.{stationOf, tolerancesOf, requestOf, recoveredBytes, Told};
 
 pub fn station_of(lower: u64, upper: u64, cap: u64) -> Station
     ensures { λ r. ⌜ r ≡ stationOf lower upper cap ⌝ }

@@ -1,6 +1,6 @@
 // What t to s answers, told to lent numbers.
 use sampling::samples::Sampled;
-ghost use Rattle.replies.specs.Samples.{Counted};
+ghost use Rattle.replies.specs.CountsTold.{Counted};
 
 // The number of an answer; its counts go to the lent numbers.
 pub fn tell(

@@ -11,7 +11,7 @@ use lib.Ieee.Exact.{HasValue}
 use lib.Ieee.Bits.{ofBits-fits}
 use Rattle.number.specs.Units.{unitsOf}
 use Rattle.number.specs.Leaves.{absolute}
-use Rattle.number.proofs.Reading.{nan-pattern, zero-by-zero}
+use Rattle.number.proofs.ReadBack.{nan-pattern, zero-by-zero}
 use Rattle.number.proofs.Patterns.{pattern-of, sign-off, one-value, sizeAt, pattern-value, infinite-value}
 use Rattle.roots.specs.Root.{rootIn, isqrt, stickRoot, rootNearest}
 use Rattle.roots.specs.Hypot.{hypotOf}

@@ -12,7 +12,7 @@ use lib.Ieee.Digits.{size-le}
 use lib.Ieee.Fits.{round-is, round-fits, nearest-le, two, two-le-pos, down-pos}
 use lib.Ieee.Exact.{HasValue, odd-sign}
 use lib.Ieee.Nearest.{closest, div-same, closest-same, nearest-ge}
-use lib.Ieee.Order.{drop, kept}
+use lib.Ieee.Order.{drop}
 use lib.Ieee.Bits.{ofBits-toBits}
 use Rattle.rounding.proofs.Powers.{half-pow, pow-le-back}
 use Rattle.rounding.proofs.StickyLaw.{size-is, size-scale}

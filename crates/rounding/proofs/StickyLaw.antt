@@ -11,7 +11,7 @@ use lib.Ieee.{Format, prec, low, size, units, round}
 use lib.Ieee.Digits.{size-lt, size-le, size-reaches}
 use lib.Ieee.Fits.{round-is}
 use lib.Ieee.Nearest.{closest, div-same}
-use lib.Ieee.Order.{drop, kept}
+use lib.Ieee.Order.{drop}
 use lib.Ieee.Scale.{round-same}
 use Rattle.rounding.proofs.Powers.{half-pow}
 use Rattle.rounding.specs.Stick.{stick}

@@ -19,7 +19,7 @@ use Rattle.limits.specs.declared.certificate.Certificate.the-variants.{Passed, 
 use Rattle.search.specs.Search.{Asked}
 use Rattle.search.specs.Cap.{afterCap, withCap, ofRows}
 use Rattle.search.specs.Table.{blocks}
-use Rattle.search.specs.Filling.{Finding, someUnfit, someUnmeetable, allBlocks, start, unmet, withBlock, foundReading, foundRow}
+use Rattle.search.specs.Findings.{Finding, someUnfit, someUnmeetable, allBlocks, start, unmet, withBlock, foundReading, foundRow}
 use Rattle.search.specs.OnTable.{certificateOn, afterCapOn, fromFinding}
 use Rattle.search.specs.declared.answer.Answer.the-variants.{Refused}
 use Rattle.search.proofs.Tables.{table-certificate}

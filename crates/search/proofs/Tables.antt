@@ -14,7 +14,7 @@ use Rattle.rows.specs.declared.reading.Reading.the-variants.{Silent, Says}
 use Rattle.rows.specs.declared.judging.Judged.{Judged}
 use Rattle.rows.specs.declared.judging.Judged.the-variants.{Broken, Fits}
 use Rattle.limits.specs.Certificate.{between, certificate}
-use Rattle.limits.specs.Counting.{counted, countedReading, countedRow}
+use Rattle.limits.specs.RowByRow.{counted, countedReading, countedRow}
 use Rattle.limits.specs.declared.request.Request.{Request}
 use Rattle.limits.specs.declared.certificate.Certificate.{Certificate}
 use Rattle.limits.specs.declared.certificate.Certificate.the-variants.{Passed, Failed}

@@ -2,5 +2,5 @@
 pub mod Search
 pub mod Cap
 pub mod Table
-pub mod Filling
+pub mod Findings
 pub mod OnTable

@@ -13,14 +13,14 @@ use Rattle.rows.specs.Judging.{judged}
 use Rattle.rows.specs.declared.block.Block.{Block}
 use Rattle.limits.specs.Bounds.{lower, upper}
 use Rattle.limits.specs.Certificate.{between}
-use Rattle.limits.specs.Counting.{counted}
+use Rattle.limits.specs.RowByRow.{counted}
 use Rattle.limits.specs.Projection.{cutBy, flatBy, reachOf}
 use Rattle.limits.specs.declared.request.Request.{Request}
 use Rattle.limits.specs.declared.projection.Span.{Span}
 use Rattle.limits.specs.declared.certificate.Certificate.{Certificate}
 use Rattle.limits.specs.declared.certificate.Certificate.the-variants.{Passed, Failed}
 use Rattle.search.specs.Search.{searched}
-use Rattle.search.specs.Filling.{Finding, someUnfit, someUnmeetable, allBlocks}
+use Rattle.search.specs.Findings.{Finding, someUnfit, someUnmeetable, allBlocks}
 use Rattle.search.specs.declared.certificate.Worst.{Worst}
 use Rattle.search.specs.declared.neighbours.Near.{Near}
 use Rattle.search.specs.declared.neighbours.Near.the-variants.{Found, ToMiddle}

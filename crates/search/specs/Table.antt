@@ -1,4 +1,4 @@
--- The table: eight doubles for each row that is not empty. Private to this crate, as are `Filling` and `OnTable`.
+-- The table: eight doubles for each row that is not empty. Private to this crate, as are `Findings` and `OnTable`.
 use Prim.Native.Nat.{ℕ, zero, suc, _+_, _*_, _/_}
 use mathlib.Core.Bool.{cond}
 use mathlib.Core.List.{List, [], _∷_}

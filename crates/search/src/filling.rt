@@ -9,7 +9,7 @@ ghost use Prim.Native.Nat.{_+_, _*_, _≤_};
 ghost use lib.ListN.{length};
 ghost use lib.Ieee.{Float};
 ghost use Rattle.rows.specs.Rows.{rowsOf, fold};
-ghost use Rattle.search.specs.Filling.{countOf, foundIn, unmet, withBlock, foundReading, foundRow, start};
+ghost use Rattle.search.specs.Findings.{countOf, foundIn, unmet, withBlock, foundReading, foundRow, start};
 
 // The rows so far: a refused one among them, or the number of blocks in the table.
 pub enum Filled {

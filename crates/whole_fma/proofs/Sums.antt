@@ -9,7 +9,7 @@ use mathlib.Core.Bool.{Bool, true, false, _&&_, Bool·beq, cond, and-true, and-f
 use borrow.Author.Tests.{lt-ltb, le-ltb}
 use lib.Dec.{ltb}
 use lib.Pow.{pow-add, pow-pos}
-use lib.Ieee.{Float, nan, inf, fin, Format, prec, up, down, unlike, size, round, sum}
+use lib.Ieee.{Float, nan, inf, fin, Format, prec, up, down, unlike, round, sum}
 use lib.Ieee.Fits.{down-pos}
 use lib.Ieee.Exact.{HasValue}
 use lib.Ieee.Scale.{round-same}

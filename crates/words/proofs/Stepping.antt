@@ -9,7 +9,7 @@ use native.Mathlib.Omega.{arith}
 use lib.ListN.{length, getD, set}
 use Rattle.loops.specs.Upto.{seek}
 use Rattle.byte_lists.specs.Bytes.{wordPut}
-use Rattle.words.specs.Parts.{belongs, runEnd}
+use Rattle.words.specs.Spots.{belongs, runEnd}
 use Rattle.words.specs.Storing.{bytesPut}
 use Rattle.words.specs.declared.text.Run.{Run}
 

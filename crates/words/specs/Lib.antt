@@ -1,2 +1,2 @@
-pub mod Parts
+pub mod Spots
 pub mod Storing

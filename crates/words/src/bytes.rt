@@ -3,7 +3,7 @@ ghost use Prim.Native.Nat.{_+_, _-_, _%_, _≤_, _<_, _^_, min};
 ghost use mathlib.Core.Path.{_≡_};
 ghost use lib.ListN.{length};
 ghost use Rattle.byte_lists.specs.Bytes.{fourAt};
-ghost use Rattle.words.specs.Parts.{numberAt, numberPut};
+ghost use Rattle.words.specs.Spots.{numberAt, numberPut};
 ghost use Rattle.words.specs.Storing.{bytesPut};
 
 fn wide(x: u8) -> u64

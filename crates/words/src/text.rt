@@ -2,7 +2,7 @@
 ghost use Prim.Native.Nat.{_≤_};
 ghost use mathlib.Core.Path.{_≡_};
 ghost use lib.ListN.{getD};
-ghost use Rattle.words.specs.Parts.{belongs, runEnd, partOf};
+ghost use Rattle.words.specs.Spots.{belongs, runEnd, partOf};
 
 // What a run is made of: all up to the line's end, spaces, or a word's bytes.
 pub enum Run {

@@ -1,5 +1,4 @@
 use borrow.Author.Tests.{eq-eqb, ne-eqb}
-use borrow.Author.Needs.{needs}
 use Rattle.byte_lists.proofs.doubles.in_eights.Statement.{statement}
 use Rattle.byte_lists.proofs.doubles.in_eights.Tie as tie
 

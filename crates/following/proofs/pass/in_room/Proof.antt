@@ -1,6 +1,5 @@
 -- `following::pass::in_room` meets its contract. Assumes nothing.
 use borrow.Author.Tests.{le-leb, lt-leb}
-use borrow.Author.Needs.{needs}
 use Rattle.following.proofs.pass.in_room.Statement.{statement}
 use Rattle.following.proofs.pass.in_room.Tie as tie
 

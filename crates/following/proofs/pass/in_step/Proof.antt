@@ -1,6 +1,5 @@
 -- `following::pass::in_step` meets its contract. Assumes nothing.
 use borrow.Author.Tests.{eq-eqb, ne-eqb}
-use borrow.Author.Needs.{needs}
 use Rattle.following.proofs.pass.in_step.Statement.{statement}
 use Rattle.following.proofs.pass.in_step.Tie as tie
 

@@ -4,7 +4,7 @@ use native.Mathlib.Omega.{arith}
 use lib.ListN.{length, drop}
 use Rattle.rows.specs.Rows.{rowsOf, fold}
 use Rattle.rows.proofs.RowScans.{fold-at, fold-end}
-use Rattle.limits.specs.Counting.{countedReading, countedRow}
+use Rattle.limits.specs.RowByRow.{countedReading, countedRow}
 use Rattle.limits.specs.declared.certificate.Certificate.{Certificate}
 use borrow.Author.Needs.{needs}
 use Rattle.limits.proofs.certificate.certify_rows.Statement.{statement}

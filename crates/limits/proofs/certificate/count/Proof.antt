@@ -1,4 +1,4 @@
-use Rattle.limits.specs.Counting.{counted}
+use Rattle.limits.specs.RowByRow.{counted}
 use borrow.Author.Needs.{needs}
 use Rattle.limits.proofs.certificate.count.Statement.{statement}
 use Rattle.limits.proofs.certificate.count.Tie as tie

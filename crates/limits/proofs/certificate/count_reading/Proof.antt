@@ -1,4 +1,4 @@
-use Rattle.limits.specs.Counting.{countedReading}
+use Rattle.limits.specs.RowByRow.{countedReading}
 use borrow.Author.Needs.{needs}
 use Rattle.limits.proofs.certificate.count_reading.Statement.{statement}
 use Rattle.limits.proofs.certificate.count_reading.Tie as tie

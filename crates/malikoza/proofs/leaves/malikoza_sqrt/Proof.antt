@@ -1,5 +1,5 @@
 use borrow.Author.Needs.{needs}
-use Rattle.number.proofs.Reading.{reads-back}
+use Rattle.number.proofs.ReadBack.{reads-back}
 use Rattle.malikoza.proofs.leaves.malikoza_sqrt.Statement.{statement}
 use Rattle.malikoza.proofs.leaves.malikoza_sqrt.Tie as tie
 

@@ -3,7 +3,7 @@ use mathlib.Core.Path.{sym, _∙_}
 use borrow.Author.Needs.{needs}
 use lib.Ieee.{binary64}
 use Rattle.number.proofs.Patterns.{not-nan-bits}
-use Rattle.number.proofs.Reading.{nan-pattern, zero-by-zero}
+use Rattle.number.proofs.ReadBack.{nan-pattern, zero-by-zero}
 use Rattle.number.proofs.pattern.double_of.Statement.{statement}
 use Rattle.number.proofs.pattern.double_of.Tie as tie
 

@@ -1,7 +1,7 @@
 -- `number::pattern::pattern_of` meets its contract.
 use borrow.Author.Needs.{needs}
 use Rattle.number.proofs.Order.{equals-itself, not-nan}
-use Rattle.number.proofs.Reading.{nan-written}
+use Rattle.number.proofs.ReadBack.{nan-written}
 use Rattle.number.proofs.pattern.pattern_of.Statement.{statement}
 use Rattle.number.proofs.pattern.pattern_of.Tie as tie
 

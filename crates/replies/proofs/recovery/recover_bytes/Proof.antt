@@ -1,5 +1,5 @@
 use borrow.Author.Tests.{eq-eqb, ne-eqb}
-use Rattle.replies.specs.Recovery.{recoveredBytes}
+use Rattle.replies.specs.AnswerTold.{recoveredBytes}
 use borrow.Author.Needs.{needs}
 use Rattle.replies.proofs.recovery.recover_bytes.Statement.{statement}
 use Rattle.replies.proofs.recovery.recover_bytes.Tie as tie

@@ -4,7 +4,7 @@ use lib.Ieee.{binary64, fits, ofBits}
 use lib.Ieee.Bits.{ofBits-toBits}
 use Rattle.number.proofs.Order.{nought, holds, fails, lt-number, not-nan}
 use Rattle.number.proofs.Downward.{down-above}
-use Rattle.number.proofs.Reading.{zero-by-zero}
+use Rattle.number.proofs.ReadBack.{zero-by-zero}
 use Rattle.roots.specs.Root.{sqrtOf}
 use Rattle.roots.proofs.NearestRoot.{rooted}
 use Rattle.roots.proofs.Sqrts.{only-infinity, below-zero, neither-side}

@@ -4,7 +4,7 @@ use mathlib.Core.List.{List}
 use native.Mathlib.Omega.{arith}
 use lib.Ieee.{Float}
 use Rattle.search.specs.Table.{blocksFrom}
-use Rattle.search.specs.Filling.{allBlocks, withBlock, foundIn, countOf}
+use Rattle.search.specs.Findings.{allBlocks, withBlock, foundIn, countOf}
 use Rattle.search.specs.declared.filling.Filled.{Filled}
 use Rattle.search.proofs.Blocks.{put-more}
 use borrow.Author.Needs.{needs}

@@ -1,5 +1,5 @@
 use native.Mathlib.Omega.{arith}
-use Rattle.search.specs.Filling.{foundReading}
+use Rattle.search.specs.Findings.{foundReading}
 use borrow.Author.Needs.{needs}
 use Rattle.search.proofs.filling.enter.Statement.{statement}
 use Rattle.search.proofs.filling.enter.Tie as tie

@@ -6,7 +6,7 @@ use lib.ListN.{length, drop}
 use Rattle.rows.specs.Rows.{rowsOf, fold}
 use Rattle.rows.proofs.RowScans.{fold-at, fold-end}
 use Rattle.search.specs.Table.{blocksFrom}
-use Rattle.search.specs.Filling.{Finding, start, foundReading, foundRow, foundIn, countOf}
+use Rattle.search.specs.Findings.{Finding, start, foundReading, foundRow, foundIn, countOf}
 use Rattle.search.proofs.filling.fill.Statement.{statement}
 use Rattle.search.proofs.filling.fill.Tie as tie
 

@@ -1,5 +1,5 @@
 use mathlib.Core.Path.{refl}
-use Rattle.search.specs.Filling.{unmet}
+use Rattle.search.specs.Findings.{unmet}
 use borrow.Author.Needs.{needs}
 use Rattle.search.proofs.filling.refuse.Statement.{statement}
 use Rattle.search.proofs.filling.refuse.Tie as tie

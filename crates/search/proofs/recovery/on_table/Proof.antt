@@ -3,7 +3,7 @@ use mathlib.Core.Path.{sym, ap, _∙_}
 use native.Mathlib.Omega.{arith}
 use lib.Seq.{length-take-le}
 use Rattle.rows.specs.Rows.{rowsOf}
-use Rattle.search.specs.Filling.{foundIn, countOf}
+use Rattle.search.specs.Findings.{foundIn, countOf}
 use Rattle.search.specs.OnTable.{withTable, fromFinding}
 use Rattle.search.specs.declared.filling.Filled.{Filled}
 use Rattle.search.proofs.Blocks.{front-blocks}

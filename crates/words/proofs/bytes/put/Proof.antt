@@ -1,7 +1,7 @@
 use mathlib.Core.Path.{_∙_}
 use borrow.Author.Needs.{needs}
 use borrow.Author.Tests.{lt-ltb, le-ltb}
-use Rattle.words.specs.Parts.{numberPut}
+use Rattle.words.specs.Spots.{numberPut}
 use Rattle.words.proofs.Stepping.{put-number}
 use Rattle.words.proofs.bytes.put.Statement.{statement}
 use Rattle.words.proofs.bytes.put.Tie as tie

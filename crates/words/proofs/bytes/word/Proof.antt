@@ -1,5 +1,5 @@
 use native.Mathlib.Omega.{arith}
-use Rattle.words.specs.Parts.{numberAt}
+use Rattle.words.specs.Spots.{numberAt}
 use borrow.Author.Needs.{needs}
 use borrow.Author.Tests.{lt-ltb, le-ltb}
 use Rattle.words.proofs.bytes.word.Statement.{statement}

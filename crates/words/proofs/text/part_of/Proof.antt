@@ -1,4 +1,4 @@
-use Rattle.words.specs.Parts.{partOf}
+use Rattle.words.specs.Spots.{partOf}
 use borrow.Author.Needs.{needs}
 use borrow.Author.Tests.{le-leb, lt-leb}
 use Rattle.words.proofs.text.part_of.Statement.{statement}

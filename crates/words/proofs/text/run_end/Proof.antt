@@ -2,7 +2,7 @@ use Prim.Native.Nat.{_≤_, _-_}
 use mathlib.Core.Path.{_≡_, refl, sym, _∙_}
 use native.Mathlib.Omega.{arith}
 use lib.ListN.{length}
-use Rattle.words.specs.Parts.{runEnd}
+use Rattle.words.specs.Spots.{runEnd}
 use Rattle.words.proofs.Stepping.{run-turn, run-stops, run-past}
 use borrow.Author.Needs.{needs}
 use Rattle.words.proofs.text.run_end.Statement.{statement}

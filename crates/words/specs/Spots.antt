@@ -11,16 +11,16 @@ use Rattle.words.specs.declared.text.Run.the-variants.{Line, Space, Word
 
 -- ---- numbers
 -- the bytes go as far as the end of number k
-abbrev pub reaches : List ℕ → ℕ → Bool
-reaches l k = ltb k (length l / 8)
+abbrev pub hasNumber : List ℕ → ℕ → Bool
+hasNumber l k = ltb k (length l / 8)
 
 -- number k, or 0 where the bytes end before it does
 unfoldable pub numberAt : List ℕ → ℕ → ℕ
-numberAt l k = cond (reaches l k) (wordAt l (8 * k)) 0
+numberAt l k = cond (hasNumber l k) (wordAt l (8 * k)) 0
 
 -- n as number k, unless the bytes end before it does
 unfoldable pub numberPut : List ℕ → ℕ → ℕ → List ℕ
-numberPut l k n = cond (reaches l k) (wordPut l (8 * k) n) l
+numberPut l k n = cond (hasNumber l k) (wordPut l (8 * k) n) l
 
 -- ---- text
 -- a run is made of all bytes up to the line's end, of spaces, or of a word's bytes

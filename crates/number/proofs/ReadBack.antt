@@ -1,10 +1,9 @@
 -- Which patterns are a NaN's, and which one is written for it. What is written reads as it was.
-use mathlib.Core.Path.{_≡_, refl, sym, ap, _∙_, subst}
-use mathlib.Core.Bool.{Bool, true, false, not}
+use mathlib.Core.Path.{_≡_, refl, sym, ap, _∙_}
+use mathlib.Core.Bool.{true}
 use Prim.Native.Nat.{ℕ, _%_, _<_, _^_}
 use borrow.Author.Tests.{lt-ltb}
-use lib.Dec.{T}
-use lib.Ieee.{Float, nan, binary64, ne, div, isNan, fits, ofBits, toBits}
+use lib.Ieee.{Float, nan, binary64, ne, div, fits, ofBits, toBits}
 use lib.Ieee.Bits.{nanBits-is, nanBits-above, ofBits-toBits}
 use lib.Ieee.Compare.{differs-from-itself}
 use Rattle.number.proofs.Order.{holds, is-nan}
