@@ -55,7 +55,7 @@ fn decoded(q: Request, rows: &[u8]) -> Answer
     if 3 * most::ROWS < rows.len() / 8 {
         return Answer::Refused(1);
     }
-    let mut numbers = [0.0; 768];
+    let mut numbers = [0.0; 3 * most::ROWS];
     doubles::decode(rows, &mut numbers);
     recover_forward_intersection(q, &numbers[..rows.len() / 8])
 }

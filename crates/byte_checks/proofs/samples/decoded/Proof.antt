@@ -4,6 +4,16 @@ use Rattle.byte_lists.proofs.Fronts.{front-is, front-count}
 use Rattle.byte_checks.proofs.samples.decoded.Statement.{statement}
 use Rattle.byte_checks.proofs.samples.decoded.Tie as tie
 
+-- from one list that was read back to the one before it, and to the start
+abbrev speeds-read : tie.After-decode3 → tie.After-decode2
+speeds-read d = d .before .before .before
+
+abbrev stations-read : tie.After-decode2 → tie.After-decode
+stations-read d = d .before .before .before
+
+abbrev started : tie.After-decode → tie.Start
+started d = d .before .before .before .before .before
+
 slice-aggregate-decode : tie.Need-slice-aggregate-decode
 slice-aggregate-decode c = search needs
 
@@ -26,30 +36,40 @@ array-share-prefix-stations : tie.Need-array-share-prefix-stations
 array-share-prefix-stations c = search needs
 
 slice-aggregate-refusal : tie.Need-slice-aggregate-refusal
-slice-aggregate-refusal c = let e = c .before .before .before .before .before .before .before .before .before .before .before .before .before in front-count (e .args .s .now) _ _ (c .before .before .before .before .before .before .before .before .decode .ensures) (e .pre .0)
+slice-aggregate-refusal c =
+    let d = c .before .before .before .before .before .before .before .before in
+    let e = started d in
+    front-count (e .args .s .now) _ _ (d .decode .ensures) (e .pre .0)
 
 array-share-prefix-speeds : tie.Need-array-share-prefix-speeds
 array-share-prefix-speeds c = search needs
 
 slice-aggregate-refusal-2 : tie.Need-slice-aggregate-refusal-2
-slice-aggregate-refusal-2 c = let e = c .before .before .before .before .before .before .before .before .before .before .before .before .before .before in front-count (e .args .a .now) _ _ (c .before .before .before .before .before .before .decode2 .ensures) (e .pre .1)
+slice-aggregate-refusal-2 c =
+    let d = c .before .before .before .before .before .before in
+    let e = started (stations-read d) in
+    front-count (e .args .a .now) _ _ (d .decode2 .ensures) (e .pre .1)
 
 array-share-prefix-times : tie.Need-array-share-prefix-times
 array-share-prefix-times c = search needs
 
 slice-aggregate-refusal-3 : tie.Need-slice-aggregate-refusal-3
-slice-aggregate-refusal-3 c = let e = c .before .before .before .before .before .before .before .before .before .before .before .before .before .before .before in front-count (e .args .t .now) _ _ (c .before .before .before .before .decode3 .ensures) (e .pre .2)
+slice-aggregate-refusal-3 c =
+    let d = c .before .before .before .before in
+    let e = started (stations-read (speeds-read d)) in
+    front-count (e .args .t .now) _ _ (d .decode3 .ensures) (e .pre .2)
 
 refusal-requires : tie.Need-refusal-requires
 refusal-requires c κs = search needs
 
 returns : tie.Need-returns
 returns c =
-    let e = c .before .before .before .before .before .before .before .before .before .before .before .before .before .before .before .before in
+    let d = c .before .before .before .before .before in
+    let e = started (stations-read (speeds-read d)) in
     rw (
-      front-is (e .args .s .now) _ _ (c .before .before .before .before .before .before .before .before .before .before .before .decode .ensures) (e .pre .0),
-      front-is (e .args .a .now) _ _ (c .before .before .before .before .before .before .before .before .decode2 .ensures) (e .pre .1),
-      front-is (e .args .t .now) _ _ (c .before .before .before .before .before .decode3 .ensures) (e .pre .2),
+      front-is (e .args .s .now) _ _ (stations-read (speeds-read d) .decode .ensures) (e .pre .0),
+      front-is (e .args .a .now) _ _ (speeds-read d .decode2 .ensures) (e .pre .1),
+      front-is (e .args .t .now) _ _ (d .decode3 .ensures) (e .pre .2),
     ) at (c .refusal .ensures)
 
 pub decoded-spec : {M : Type 1} → statement M

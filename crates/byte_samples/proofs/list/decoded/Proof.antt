@@ -4,6 +4,19 @@ use borrow.Author.Needs.{needs}
 use Rattle.byte_samples.proofs.list.decoded.Statement.{statement}
 use Rattle.byte_samples.proofs.list.decoded.Tie as tie
 
+-- from one list that was read back to the one before it, and to the start
+abbrev times-read : tie.After-decode4 → tie.After-decode3
+times-read d = d .before .before .before
+
+abbrev speeds-read : tie.After-decode3 → tie.After-decode2
+speeds-read d = d .before .before .before
+
+abbrev stations-read : tie.After-decode2 → tie.After-decode
+stations-read d = d .before .before .before
+
+abbrev started : tie.After-decode → tie.Start
+started d = d .before .before .before .before .before .before .before .before .before
+
 slice-aggregate-decode : tie.Need-slice-aggregate-decode
 slice-aggregate-decode c = search needs
 
@@ -40,7 +53,7 @@ array-share-prefix-speeds c = search needs
 slice-aggregate-sampled-2 : tie.Need-slice-aggregate-sampled-2
 slice-aggregate-sampled-2 c =
     let d = c .before .before .before .before .before .before .before .before .before .before in
-    let e = d .before .before .before .before .before .before .before .before .before .before .before .before in
+    let e = started (stations-read d) in
     front-count (e .args .a .now) _ _ (d .decode2 .ensures) (e .pre .1)
 
 array-share-prefix-times : tie.Need-array-share-prefix-times
@@ -49,7 +62,7 @@ array-share-prefix-times c = search needs
 slice-aggregate-sampled-3 : tie.Need-slice-aggregate-sampled-3
 slice-aggregate-sampled-3 c =
     let d = c .before .before .before .before .before .before .before .before in
-    let e = d .before .before .before .before .before .before .before .before .before .before .before .before .before .before .before in
+    let e = started (stations-read (speeds-read d)) in
     front-count (e .args .t .now) _ _ (d .decode3 .ensures) (e .pre .2)
 
 slice-reshare-prefix-sampled : tie.Need-slice-reshare-prefix-sampled
@@ -58,13 +71,13 @@ slice-reshare-prefix-sampled c = search needs
 slice-aggregate-sampled-4 : tie.Need-slice-aggregate-sampled-4
 slice-aggregate-sampled-4 c =
     let d = c .before .before .before .before .before .before in
-    let e = d .before .before .before .before .before .before .before .before .before .before .before .before .before .before .before .before .before .before in
+    let e = started (stations-read (speeds-read (times-read d))) in
     front-count (e .args .x .now) _ _ (d .decode4 .ensures) (e .pre .3)
 
 sampled-requires : tie.Need-sampled-requires
 sampled-requires c κs =
     let d = c .before .before .before .before .before .before .before .before in
-    let e = d .before .before .before .before .before .before .before .before .before .before .before .before .before .before .before .before .before .before in
+    let e = started (stations-read (speeds-read (times-read d))) in
     omega (arith, front-count (e .args .x .now) _ _ (d .decode4 .ensures) (e .pre .3), e .pre .4)
 
 same-length : tie.Need-same-length
@@ -79,11 +92,11 @@ same-length-3 c = search needs
 returns : tie.Need-returns
 returns c =
     let d = c .before .before .before .before .before .before .before .before .before .before .before .before .before in
-    let e = d .before .before .before .before .before .before .before .before .before .before .before .before .before .before .before .before .before .before in
+    let e = started (stations-read (speeds-read (times-read d))) in
     rw (
-      front-is (e .args .s .now) _ _ (d .before .before .before .before .before .before .before .before .before .decode .ensures) (e .pre .0),
-      front-is (e .args .a .now) _ _ (d .before .before .before .before .before .before .decode2 .ensures) (e .pre .1),
-      front-is (e .args .t .now) _ _ (d .before .before .before .decode3 .ensures) (e .pre .2),
+      front-is (e .args .s .now) _ _ (stations-read (speeds-read (times-read d)) .decode .ensures) (e .pre .0),
+      front-is (e .args .a .now) _ _ (speeds-read (times-read d) .decode2 .ensures) (e .pre .1),
+      front-is (e .args .t .now) _ _ (times-read d .decode3 .ensures) (e .pre .2),
       front-is (e .args .x .now) _ _ (d .decode4 .ensures) (e .pre .3),
     ) at (c .before .before .before .before .sampled .ensures)
 
