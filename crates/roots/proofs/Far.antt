@@ -18,8 +18,8 @@ use Rattle.rounding.proofs.Pack.{Normal, packed}
 use Rattle.rounding.proofs.Scaled.{deep-is}
 use Rattle.rounding.proofs.Unpack.{code-field, code-exponent}
 use Rattle.roots.specs.Root.{isqrt}
-use Rattle.roots.specs.CutRoot.{stickMore}
-use Rattle.roots.proofs.Roots.{isqrt-is, square-rises, square-lt, stickMore-is}
+use Rattle.exact_roots.specs.CutRoot.{stickMore}
+use Rattle.exact_roots.proofs.Roots.{isqrt-is, square-rises, square-lt, stickMore-is}
 use Rattle.roots.proofs.Parted.{Parted}
 
 -- the root of m² + n² / 2 ^ s, in eighths of m's last digit: it is m and less than half of that digit more

@@ -11,9 +11,9 @@ use Rattle.number.proofs.Patterns.{sizeAt, pattern-value, units-of-value}
 use Rattle.rounding.specs.Packing.{deep, significand, exponent}
 use Rattle.rounding.proofs.Scaled.{deep-is}
 use Rattle.roots.specs.Root.{rootNearest}
-use Rattle.roots.specs.CutRoot.{stickMore}
+use Rattle.exact_roots.specs.CutRoot.{stickMore}
 use Rattle.roots.specs.Hypot.{hypotOf}
-use Rattle.roots.proofs.RootLaw.{root-rounded}
+use Rattle.exact_roots.proofs.RootLaw.{root-rounded}
 use Rattle.roots.proofs.Parted.{Parted, exponents-rise}
 use Rattle.roots.proofs.Far.{far-root, own-pattern}
 

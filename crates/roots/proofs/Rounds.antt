@@ -5,8 +5,8 @@ use native.Mathlib.Nat.{le-trans, le-of-eq, lt-of-le-of-lt, lt-suc-self, lt-of-m
 use native.Mathlib.Omega.{arith}
 use mathlib.Core.Bool.{Bool, true, false, not}
 use lib.Dec.{T, leb, leb→le, nleb→lt}
-use Rattle.roots.specs.CutRoot.{stickMore}
-use Rattle.roots.proofs.Roots.{Root, square-lt, stickMore-is}
+use Rattle.exact_roots.specs.CutRoot.{stickMore}
+use Rattle.exact_roots.proofs.Roots.{Root, square-lt, stickMore-is}
 
 -- ---- a round from any number above 0 gives no less than the root
 squares-le : (a d : ℕ) → 2 * (a * (a + d)) ≤ a * a + (a + d) * (a + d)

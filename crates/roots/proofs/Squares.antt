@@ -5,7 +5,7 @@ use native.Mathlib.Nat.{lt-of-lt-of-le, lt-of-le-of-lt, lt-of-mul-lt-mul-right, 
 use native.Mathlib.Omega.{arith}
 use lib.Dec.{lit≤}
 use lib.Pow.{pow-pos, pow-mono, mod-mod-pow}
-use Rattle.roots.proofs.Roots.{square-rises}
+use Rattle.exact_roots.proofs.Roots.{square-rises}
 
 -- what `root` is given: the number n * 2 ^ 48 + l, and z, what was cut off it
 pub record Given (x y s n l z : ℕ) : Type 0 where

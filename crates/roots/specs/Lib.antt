@@ -1,4 +1,3 @@
--- What document 01 says of the square root and of hypot.
+-- What document 01 says of the square root and of hypot: crate exact_roots says it.
 pub mod Root
-pub mod CutRoot
 pub mod Hypot

@@ -1,7 +1,7 @@
 // The whole part of a root, twice, and one more where the root is not whole: all that rounding has to know of it.
 ghost use mathlib.Core.Path.{_≡_};
 ghost use Prim.Native.Nat.{_+_, _*_, _^_, _<_, _≤_};
-ghost use Rattle.roots.specs.CutRoot.{stickMore};
+ghost use Rattle.exact_roots.specs.CutRoot.{stickMore};
 
 // Where Heron's rounds start: near the roots that are asked for. Any number of this range will do.
 fn guess(n: u64) -> u64

@@ -5,7 +5,7 @@ ghost use mathlib.Core.Bool.{cond};
 ghost use lib.Dec.{ltb};
 ghost use lib.Ieee.{binary64, ofBits};
 ghost use Rattle.rounding.specs.Packing.{significand, exponent};
-ghost use Rattle.roots.specs.CutRoot.{stickMore};
+ghost use Rattle.exact_roots.specs.CutRoot.{stickMore};
 ghost use Rattle.roots.specs.Hypot.{hypotOf, Spanned};
 use crate::floor_root;
 use limbs::wide;

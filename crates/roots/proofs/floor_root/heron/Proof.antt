@@ -3,7 +3,7 @@ use Prim.Native.Nat.{_+_, _*_, _^_, _<_}
 use native.Mathlib.Nat.{div-le-self}
 use native.Mathlib.Omega.{arith}
 use borrow.Author.Needs.{needs}
-use Rattle.roots.proofs.Roots.{square-rises}
+use Rattle.exact_roots.proofs.Roots.{square-rises}
 use Rattle.roots.proofs.Rounds.{round-above, round-below, root-pos, first-fits}
 use Rattle.roots.proofs.floor_root.heron.Statement.{statement}
 use Rattle.roots.proofs.floor_root.heron.Tie as tie

@@ -2,7 +2,7 @@ use mathlib.Core.Path.{ap, _∙_}
 use Prim.Native.Nat.{ℕ, _+_, _*_, _^_}
 use native.Mathlib.Omega.{arith}
 use borrow.Author.Needs.{needs}
-use Rattle.roots.specs.CutRoot.{stickMore}
+use Rattle.exact_roots.specs.CutRoot.{stickMore}
 use Rattle.roots.proofs.Rounds.{root-in}
 use Rattle.roots.proofs.floor_root.root.Statement.{statement}
 use Rattle.roots.proofs.floor_root.root.Tie as tie

@@ -8,7 +8,7 @@ use lib.Ieee.{binary64, round}
 use Rattle.rounding.specs.Packing.{deep}
 use Rattle.rounding.proofs.Scaled.{no-nan}
 use Rattle.roots.proofs.Parted.{parted}
-use Rattle.roots.proofs.HypotCases.{code-zeros}
+use Rattle.exact_roots.proofs.HypotCases.{code-zeros}
 use Rattle.roots.proofs.Lengths.{Both, lower, code-near, code-far}
 use Rattle.roots.proofs.hypot.finite_length.Statement.{statement}
 use Rattle.roots.proofs.hypot.finite_length.Tie as tie

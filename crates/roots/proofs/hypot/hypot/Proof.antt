@@ -5,8 +5,8 @@ use borrow.Author.Needs.{needs}
 use lib.Ieee.{binary64, ofBits}
 use Rattle.number.proofs.Order.{holds}
 use Rattle.roots.specs.Hypot.{hypotOf}
-use Rattle.roots.proofs.NearestRoot.{spanned}
-use Rattle.roots.proofs.HypotCases.{code-unsigned, sorted-in, code-sorted}
+use Rattle.exact_roots.proofs.NearestRoot.{spanned}
+use Rattle.exact_roots.proofs.HypotCases.{code-unsigned, sorted-in, code-sorted}
 use Rattle.roots.proofs.hypot.hypot.Statement.{statement}
 use Rattle.roots.proofs.hypot.hypot.Tie as tie
 

@@ -1,7 +1,7 @@
 use borrow.Author.Needs.{needs}
 use lib.Dec.{lit≤}
 use Rattle.rounding.proofs.Scaled.{no-nan}
-use Rattle.roots.proofs.HypotCases.{code-infinite, code-infinite-second, code-nan}
+use Rattle.exact_roots.proofs.HypotCases.{code-infinite, code-infinite-second, code-nan}
 use Rattle.roots.proofs.hypot.ordered.Statement.{statement}
 use Rattle.roots.proofs.hypot.ordered.Tie as tie
 

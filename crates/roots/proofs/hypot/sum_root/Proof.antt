@@ -2,7 +2,7 @@ use mathlib.Core.Path.{ap₂, _∙_}
 use Prim.Native.Nat.{_+_, _*_, _/_, _%_, _^_}
 use native.Mathlib.Omega.{arith}
 use borrow.Author.Needs.{needs}
-use Rattle.roots.specs.CutRoot.{stickMore}
+use Rattle.exact_roots.specs.CutRoot.{stickMore}
 use Rattle.roots.proofs.Squares.{Given, given}
 use Rattle.roots.proofs.hypot.sum_root.Statement.{statement}
 use Rattle.roots.proofs.hypot.sum_root.Tie as tie

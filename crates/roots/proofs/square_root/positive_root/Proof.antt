@@ -7,8 +7,9 @@ use lib.Dec.{lit<}
 use lib.Ieee.{binary64, round}
 use Rattle.number.proofs.Patterns.{sizeAt}
 use Rattle.rounding.specs.Packing.{deep}
+use Rattle.exact_roots.proofs.SqrtCases.{of-pattern}
 use Rattle.roots.proofs.Parted.{Parted, parted}
-use Rattle.roots.proofs.Sqrts.{placed-in, code-root, of-pattern}
+use Rattle.roots.proofs.Sqrts.{placed-in, code-root}
 use Rattle.roots.proofs.square_root.positive_root.Statement.{statement}
 use Rattle.roots.proofs.square_root.positive_root.Tie as tie
 

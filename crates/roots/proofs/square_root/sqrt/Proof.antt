@@ -6,8 +6,8 @@ use Rattle.number.proofs.Order.{nought, holds, fails, lt-number, not-nan}
 use Rattle.number.proofs.Downward.{down-above}
 use Rattle.number.proofs.ReadBack.{zero-by-zero}
 use Rattle.roots.specs.Root.{sqrtOf}
-use Rattle.roots.proofs.NearestRoot.{rooted}
-use Rattle.roots.proofs.Sqrts.{only-infinity, below-zero, neither-side}
+use Rattle.exact_roots.proofs.NearestRoot.{rooted}
+use Rattle.exact_roots.proofs.SqrtCases.{only-infinity, below-zero, neither-side}
 use Rattle.roots.proofs.square_root.sqrt.Statement.{statement}
 use Rattle.roots.proofs.square_root.sqrt.Tie as tie
 

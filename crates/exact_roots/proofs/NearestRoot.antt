@@ -11,9 +11,9 @@ use Rattle.number.specs.Units.{unitsOf}
 use Rattle.nearness.specs.Nearness.{fraction, rootOf, Nearest}
 use Rattle.nearness.proofs.RoundNearest.{round-nearest, Same, nearest-same}
 use Rattle.nearness.proofs.OneNearest.{only-root}
-use Rattle.roots.specs.Root.{isqrt, stickRoot, rootNearest, sqrtOf, SqrtNearest, Rooted}
-use Rattle.roots.specs.Hypot.{hypotOf, HypotNearest, Spanned}
-use Rattle.roots.proofs.Roots.{isqrt-is, square-lt, stickRoot-is}
+use Rattle.exact_roots.specs.Root.{isqrt, stickRoot, rootNearest, sqrtOf, SqrtNearest, Rooted}
+use Rattle.exact_roots.specs.Hypot.{hypotOf, HypotNearest, Spanned}
+use Rattle.exact_roots.proofs.Roots.{isqrt-is, square-lt, stickRoot-is}
 
 -- ---- the sticky root compares with a whole number of half steps as the number does with its square
 module _ (m k : ℕ) where

@@ -9,8 +9,8 @@ use lib.Ieee.{size}
 use lib.Ieee.Digits.{size-lt}
 use Rattle.rounding.specs.Stick.{stick}
 use Rattle.rounding.proofs.Sticks.{stick-half, halved}
-use Rattle.roots.specs.Root.{rootIn, isqrt, stickRoot}
-use Rattle.roots.specs.CutRoot.{stickMore}
+use Rattle.exact_roots.specs.Root.{rootIn, isqrt, stickRoot}
+use Rattle.exact_roots.specs.CutRoot.{stickMore}
 
 -- r is the whole part of n's root
 abbrev pub Root : ℕ → ℕ → Type 0

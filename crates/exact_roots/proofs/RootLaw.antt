@@ -12,9 +12,9 @@ use Rattle.rounding.specs.Stick.{stick}
 use Rattle.rounding.specs.Packing.{deep}
 use Rattle.rounding.proofs.Powers.{three-powers}
 use Rattle.rounding.proofs.StickyLaw.{sticky, size-gt}
-use Rattle.roots.specs.Root.{isqrt, stickRoot, rootNearest}
-use Rattle.roots.specs.CutRoot.{stickMore}
-use Rattle.roots.proofs.Roots.{isqrt-is, square-lt, more-none, more-scaled, cut-more, cut-whole}
+use Rattle.exact_roots.specs.Root.{isqrt, stickRoot, rootNearest}
+use Rattle.exact_roots.specs.CutRoot.{stickMore}
+use Rattle.exact_roots.proofs.Roots.{isqrt-is, square-lt, more-none, more-scaled, cut-more, cut-whole}
 
 -- the root may be taken on a grid that is finer by i digits
 finer : (f : Format) (n i : ℕ) → rootNearest f n ≡ round f false (stickRoot (4 * n * (2 ^ i * 2 ^ i))) (4 * 2 ^ low f * 2 ^ i)

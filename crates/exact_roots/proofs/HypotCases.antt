@@ -13,8 +13,8 @@ use Rattle.number.specs.Units.{unitsOf}
 use Rattle.number.specs.Leaves.{absolute}
 use Rattle.number.proofs.ReadBack.{nan-pattern, zero-by-zero}
 use Rattle.number.proofs.Patterns.{pattern-of, sign-off, one-value, sizeAt, pattern-value, infinite-value}
-use Rattle.roots.specs.Root.{rootIn, isqrt, stickRoot, rootNearest}
-use Rattle.roots.specs.Hypot.{hypotOf}
+use Rattle.exact_roots.specs.Root.{rootIn, isqrt, stickRoot, rootNearest}
+use Rattle.exact_roots.specs.Hypot.{hypotOf}
 
 -- ---- either way round, and whatever the signs
 swap : (f : Format) (x y : Float) → hypotOf f x y ≡ hypotOf f y x

@@ -1,0 +1,6 @@
+-- The laws, in reading order.
+pub mod Roots
+pub mod RootLaw
+pub mod SqrtCases
+pub mod HypotCases
+pub mod NearestRoot

@@ -1,0 +1,1 @@
+// What the square root and hypot are, and the laws of these definitions: nearest, and one value only. No code.
