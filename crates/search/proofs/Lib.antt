@@ -1,7 +1,3 @@
-pub mod Blocks
-pub mod Worst
-pub mod Tables
-pub mod Scanning
-pub mod Finding
+pub mod Answering
 pub mod Turns
 pub mod Wholes

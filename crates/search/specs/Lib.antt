@@ -1,6 +1,4 @@
--- Document 01, "Recovery", from the cap on, in its order; then how a row is worked out once for all candidates, which inner functions alone cite.
+-- Document 01, "Recovery", from the cap on, in its order; then what inner functions alone promise, by the table.
 pub mod Search
 pub mod Cap
-pub mod Table
-pub mod Findings
 pub mod OnTable

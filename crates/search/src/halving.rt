@@ -1,14 +1,14 @@
 // The middle, and what follows it: halvings between the passing middle and the rejected upper end.
 use crate::answer::Answer;
-use crate::certificate;
 use limits::certificate::Certificate;
 use limits::projection::Span;
 use limits::request::Request;
+use tables::certificate;
 ghost use mathlib.Core.Path.{_≡_};
 ghost use Prim.Native.Nat.{_<_, _≤_};
 ghost use Rattle.search.specs.Search.{middle, stops, replaced, halved, halvings, afterMiddle, tryMiddle};
-ghost use Rattle.search.specs.Table.{blocksOf};
-ghost use Rattle.search.specs.OnTable.{certificateOn};
+ghost use Rattle.tables.specs.Table.{blocksOf};
+ghost use Rattle.tables.specs.ByBlocks.{certificateOn};
 
 // The ends of the halving: one that passes, with its figures, and one that is rejected.
 pub struct Ends {

@@ -1,14 +1,15 @@
 // The projected upper end and up to four next-down doubles. What follows them is told, and not called: the middle.
-use crate::certificate;
 use limits::certificate::Certificate;
 use limits::projection::Span;
 use limits::request::Request;
 use number::step;
+use tables::certificate;
 ghost use mathlib.Core.Path.{_≡_};
 ghost use Prim.Native.Nat.{_≤_};
 ghost use Rattle.search.specs.Search.{tryNeighbours};
-ghost use Rattle.search.specs.Table.{blocksOf};
-ghost use Rattle.search.specs.OnTable.{certificateOn, triedBefore};
+ghost use Rattle.tables.specs.Table.{blocksOf};
+ghost use Rattle.tables.specs.ByBlocks.{certificateOn};
+ghost use Rattle.search.specs.OnTable.{triedBefore};
 
 // A candidate that passes, or the number of those tried before the middle.
 pub enum Near {

@@ -1,27 +1,28 @@
 // The cap, and the search after a cap that failed.
 use crate::answer::Answer;
-use crate::certificate;
-use crate::filling;
-use crate::filling::Filled;
 use crate::halving;
 use crate::neighbours;
 use crate::neighbours::Near;
-use crate::projection;
-use crate::projection::Class;
 use limits::bounds;
 use limits::certificate::Certificate;
 use limits::projection::Span;
 use limits::request::Request;
 use number::size;
 use rows::whole;
+use tables::certificate;
+use tables::filling;
+use tables::filling::Filled;
+use tables::projection;
+use tables::projection::Class;
 ghost use mathlib.Core.Path.{_≡_};
-ghost use Prim.Native.Nat.{_*_, _≤_};
+ghost use Prim.Native.Nat.{_/_, _≤_};
 ghost use lib.ListN.{length};
 ghost use Rattle.rows.specs.Rows.{rowsOf};
 ghost use Rattle.search.specs.Search.{inOrder, afterNeighbours, searched};
 ghost use Rattle.search.specs.Cap.{ofRows, withRows};
-ghost use Rattle.search.specs.Table.{blocksOf};
-ghost use Rattle.search.specs.OnTable.{certificateOn, triedBefore, afterCapOn, withTable};
+ghost use Rattle.tables.specs.Table.{blocksOf};
+ghost use Rattle.tables.specs.ByBlocks.{certificateOn};
+ghost use Rattle.search.specs.OnTable.{triedBefore, afterCapOn, withTable};
 
 fn in_order(s: Span) -> bool
     ensures { λ r. ⌜ r ≡ inOrder s ⌝ }
@@ -102,7 +103,7 @@ fn with_table(q: Request, table: &[f64]) -> Answer
 
 // Refusals 5 and 6, then the cap.
 fn on_table(q: Request, rows: &[f64], table: &mut [f64]) -> Answer
-    requires { ⌜ 8 * length (now rows) ≤ 3 * length (now table) ⌝ }
+    requires { ⌜ length (now rows) / 3 ≤ length (now table) / 8 ⌝ }
     ensures { λ a. ⌜ a ≡ ofRows q (rowsOf (now (rows .entry))) ⌝ }
 {
     match filling::fill(q.tolerances.feas, q.a_prev, rows, table) {

@@ -2,8 +2,8 @@ use Prim.Native.Nat.{_≤_, _+_, _-_}
 use mathlib.Core.Path.{_≡_, refl, sym, ap, _∙_}
 use native.Mathlib.Omega.{arith}
 use Rattle.search.specs.Search.{stops, halvings}
-use Rattle.search.specs.Table.{blocksOf}
-use Rattle.search.specs.OnTable.{certificateOn}
+use Rattle.tables.specs.Table.{blocksOf}
+use Rattle.tables.specs.ByBlocks.{certificateOn}
 use Rattle.search.specs.declared.halving.Ends.{Ends}
 use Rattle.search.proofs.Turns.{halvings-on, halvings-stop, halvings-done, halved-tried}
 use borrow.Author.Needs.{needs}

@@ -4,8 +4,8 @@ use native.Mathlib.Omega.{arith}
 use lib.Ieee.{Float, binary64, lt}
 use Rattle.number.specs.Leaves.{nextDown}
 use Rattle.search.specs.Search.{neighbours, tryNeighbours}
-use Rattle.search.specs.Table.{blocksOf}
-use Rattle.search.specs.OnTable.{certificateOn}
+use Rattle.tables.specs.Table.{blocksOf}
+use Rattle.tables.specs.ByBlocks.{certificateOn}
 use Rattle.search.proofs.Turns.{near-below, near-end, near-found, near-on}
 use borrow.Author.Needs.{needs}
 use Rattle.search.proofs.neighbours.try_neighbours.Statement.{statement}

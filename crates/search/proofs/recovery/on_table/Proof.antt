@@ -1,13 +1,12 @@
 use Prim.Native.Nat.{_*_}
 use mathlib.Core.Path.{sym, ap, _∙_}
 use native.Mathlib.Omega.{arith}
+use lib.ListN.{length}
 use lib.Seq.{length-take-le}
-use Rattle.rows.specs.Rows.{rowsOf}
-use Rattle.search.specs.Findings.{foundIn, countOf}
-use Rattle.search.specs.OnTable.{withTable, fromFinding}
-use Rattle.search.specs.declared.filling.Filled.{Filled}
-use Rattle.search.proofs.Blocks.{front-blocks}
-use Rattle.search.proofs.Finding.{table-answers}
+use Rattle.tables.specs.Findings.{countOf}
+use Rattle.search.specs.OnTable.{withTable}
+use Rattle.tables.proofs.Blocks.{front-blocks}
+use Rattle.search.proofs.Answering.{table-answers}
 use borrow.Author.Needs.{needs}
 use Rattle.search.proofs.recovery.on_table.Statement.{statement}
 use Rattle.search.proofs.recovery.on_table.Tie as tie
@@ -26,8 +25,9 @@ enum-known-n c = search needs
 
 mul-end : tie.Need-mul-end
 mul-end c =
-    let f = c .before .before .before .before .before .fill in
-    omega (arith, ap countOf (c .before .n .given .1), f .ensures .1, c .before .before .before .before .before .before .before .before .before .good .1 .0 .1)
+    let f = c .before .before .before .before .before in
+    let a = f .before .before .before .before in
+    omega (arith, ap countOf (c .before .n .given .1), f .fill .ensures .1, a .good .1 .0 .1)
 
 slice-reshare-prefix-with-table : tie.Need-slice-reshare-prefix-with-table
 slice-reshare-prefix-with-table c =
@@ -48,33 +48,31 @@ same-length c = search needs
 
 returns : tie.Need-returns
 returns c =
-    let f = c .before .before .before .before .fill in
-    let a = c .before .before .before .before .before .before .before .before .args in
-    ap (λ (v : Filled). fromFinding (a .q) (foundIn (f .last .1 .1 .1 .0) v)) (sym (c .enum-told .given .1)) ∙ ap (fromFinding (a .q)) (f .ensures .0) ∙ table-answers (a .q) (rowsOf (a .rows .now))
+    let f = c .before .before .before .before in
+    let a = f .before .before .before .before in
+    table-answers (a .args .q) (a .args .rows .now) (length (a .args .table .now)) (a .pre) (f .fill .last .1 .1 .1 .0) _ _ (c .enum-told .given .1) (f .fill .ensures .0)
 
 same-length-2 : tie.Need-same-length-2
 same-length-2 c = search needs
 
 returns-2 : tie.Need-returns-2
 returns-2 c =
-    let f = c .before .before .before .before .fill in
-    let a = c .before .before .before .before .before .before .before .before .args in
-    ap (λ (v : Filled). fromFinding (a .q) (foundIn (f .last .1 .1 .1 .0) v)) (sym (c .enum-told2 .given .1)) ∙ ap (fromFinding (a .q)) (f .ensures .0) ∙ table-answers (a .q) (rowsOf (a .rows .now))
+    let f = c .before .before .before .before in
+    let a = f .before .before .before .before in
+    table-answers (a .args .q) (a .args .rows .now) (length (a .args .table .now)) (a .pre) (f .fill .last .1 .1 .1 .0) _ _ (c .enum-told2 .given .1) (f .fill .ensures .0)
 
 same-length-3 : tie.Need-same-length-3
 same-length-3 c = search needs
 
 returns-3 : tie.Need-returns-3
 returns-3 c =
-    let f = c .before .before .before .before .before .before .before .fill in
-    let a = c .before .before .before .before .before .before .before .before .before .before .before .args in
+    let f = c .before .before .before .before .before .before .before in
+    let a = f .before .before .before .before in
     let n = c .before .before .before .n .given in
-    let t = f .last .1 .1 .1 .0 in
+    let t = f .fill .last .1 .1 .1 .0 in
     c .with-table .ensures
-    ∙ ap (withTable (a .q)) (front-blocks t (n .0 .0) (omega (arith, ap countOf (n .1), f .ensures .1, f .kept .1 .1 .1 .0)))
-    ∙ ap (λ (v : Filled). fromFinding (a .q) (foundIn t v)) (sym (n .1))
-    ∙ ap (fromFinding (a .q)) (f .ensures .0)
-    ∙ table-answers (a .q) (rowsOf (a .rows .now))
+    ∙ ap (withTable (a .args .q)) (front-blocks t (n .0 .0) (omega (arith, ap countOf (n .1), f .fill .ensures .1, f .fill .kept .1 .1 .1 .0)))
+    ∙ table-answers (a .args .q) (a .args .rows .now) (length (a .args .table .now)) (a .pre) t _ _ (n .1) (f .fill .ensures .0)
 
 pub on-table-spec : {M : Type 1} → statement M
 on-table-spec =

@@ -1,6 +1,6 @@
 use mathlib.Core.Path.{ap, _∙_}
-use Rattle.search.specs.Table.{blocksOf}
-use Rattle.search.specs.OnTable.{certificateOn}
+use Rattle.tables.specs.Table.{blocksOf}
+use Rattle.tables.specs.ByBlocks.{certificateOn}
 use Rattle.search.specs.OnTable.{afterCapOn}
 use borrow.Author.Needs.{needs}
 use Rattle.search.proofs.recovery.with_table.Statement.{statement}

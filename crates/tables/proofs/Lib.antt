@@ -1,0 +1,5 @@
+pub mod Blocks
+pub mod Worst
+pub mod Tables
+pub mod Scanning
+pub mod Finding

@@ -1,0 +1,85 @@
+// One pass over the rows before the first candidate: refusals 5 and 6, and the table.
+use crate::table;
+use rows::block::Block;
+use rows::reading;
+use rows::reading::Reading;
+ghost use mathlib.Core.Path.{_≡_};
+ghost use mathlib.Core.List.{List};
+ghost use Prim.Native.Nat.{_+_, _*_, _/_, _≤_};
+ghost use lib.ListN.{length};
+ghost use lib.Ieee.{Float};
+ghost use Rattle.rows.specs.Rows.{rowsOf, fold};
+ghost use Rattle.tables.specs.Findings.{countOf, foundIn, unmet, withBlock, foundReading, foundRow, start, found};
+
+// The rows so far: a refused one among them, or the number of blocks in the table.
+pub enum Filled {
+    SomeUnfit,
+    SomeUnmeetable,
+    Ready(usize),
+}
+
+// A row that cannot be met. Refusal 5 comes before refusal 6, whichever row is first.
+fn refuse(s: Filled) -> Filled
+    ensures { λ v. ⌜ ((l : List Float) → foundIn l v ≡ unmet (foundIn l s)) × (countOf v ≡ 0) ⌝ }
+{
+    match s {
+        Filled::SomeUnfit => Filled::SomeUnfit,
+        Filled::SomeUnmeetable => Filled::SomeUnmeetable,
+        Filled::Ready(_) => Filled::SomeUnmeetable,
+    }
+}
+
+// One block more, unless a row was refused.
+fn add(table: &mut [f64], s: Filled, b: Block) -> Filled
+    requires { ⌜ 8 * countOf s + 8 ≤ length (now table) ⌝ }
+    ensures { λ v. ⌜ (foundIn (now (table .exit)) v ≡ withBlock (foundIn (now (table .entry)) s) b) × (countOf v ≤ countOf s + 1) ⌝ }
+{
+    match s {
+        Filled::SomeUnfit => s,
+        Filled::SomeUnmeetable => s,
+        Filled::Ready(n) => {
+            table::put(table, n, b);
+            Filled::Ready(n + 1)
+        }
+    }
+}
+
+// One row more.
+fn enter(r: Reading, table: &mut [f64], s: Filled) -> Filled
+    requires { ⌜ 8 * countOf s + 8 ≤ length (now table) ⌝ }
+    ensures { λ v. ⌜ (foundIn (now (table .exit)) v ≡ foundReading (foundIn (now (table .entry)) s) r) × (countOf v ≤ countOf s + 1) ⌝ }
+{
+    match r {
+        Reading::Unfit => Filled::SomeUnfit,
+        Reading::Unmeetable => refuse(s),
+        Reading::Silent => s,
+        Reading::Says(b) => add(table, s, b),
+    }
+}
+
+fn fill_rows(tol: f64, a: f64, rows: &[f64], table: &mut [f64]) -> Filled
+    requires { ⌜ length (now rows) / 3 ≤ length (now table) / 8 ⌝ }
+    ensures { λ v. ⌜ (foundIn (now (table .exit)) v ≡ fold (foundRow tol a) start (rowsOf (now (rows .entry)))) × (3 * countOf v ≤ length (now (rows .entry))) ⌝ }
+{
+    let mut state = Filled::Ready(0);
+    let mut i = 0;
+    while 3 <= rows.len() - i {
+        state = enter(
+            reading::read(tol, a, rows[i], rows[i + 1], rows[i + 2]),
+            table,
+            state,
+        );
+        i += 3;
+    }
+    state
+}
+
+// A table with no room for a block for each row fits no rows.
+pub fn fill(tol: f64, a: f64, rows: &[f64], table: &mut [f64]) -> Filled
+    ensures { λ v. ⌜ (foundIn (now (table .exit)) v ≡ found tol a (now (rows .entry)) (length (now (table .entry)))) × (3 * countOf v ≤ length (now (rows .entry))) ⌝ }
+{
+    if rows.len() / 3 <= table.len() / 8 {
+        return fill_rows(tol, a, rows, table);
+    }
+    Filled::SomeUnfit
+}
