@@ -87,15 +87,20 @@ module _ (tol a x : Float) (w : Row) where
       let v = cond (empty w) (le zero (w .rhs)) all-are in
       fits-so tol w (and-l (numbersFinite w) v h) (λ e. finites (empty w) (and-r (numbersFinite w) v h) e)
     where
+      four : Bool
+      four = fourFinite (rawTol tol w) (normalized a x w) (rawNormalized a x w) (raw a x w)
+
       rest : Bool
       rest = le (normalized a x w) tol && (le (rawNormalized a x w) tol && le (raw a x w) (rawTol tol w))
 
-      finites : (b : Bool) → T (cond b (le zero (w .rhs)) (fourFinite (rawTol tol w) (normalized a x w) (rawNormalized a x w) (raw a x w) && rest)) → T (not b) → T (finite (inv w)) × T (finite (rawTol tol w))
+      finites : (b : Bool) → T (cond b (le zero (w .rhs)) (four && rest)) → T (not b) → T (finite (inv w)) × T (finite (rawTol tol w))
       finites true h e = absurd e
       finites false h e =
-          let f = and-l (fourFinite (rawTol tol w) (normalized a x w) (rawNormalized a x w) (raw a x w)) rest h in
-          let r = and-r (finite (rawTol tol w)) (finite (normalized a x w) && (finite (rawNormalized a x w) && finite (raw a x w))) f in
-          (inverse-finite (and-l (finite (normalized a x w)) (finite (rawNormalized a x w) && finite (raw a x w)) r), and-l (finite (rawTol tol w)) (finite (normalized a x w) && (finite (rawNormalized a x w) && finite (raw a x w))) f)
+          let two = finite (rawNormalized a x w) && finite (raw a x w) in
+          let three = finite (normalized a x w) && two in
+          let f = and-l four rest h in
+          let r = and-r (finite (rawTol tol w)) three f in
+          (inverse-finite (and-l (finite (normalized a x w)) two r), and-l (finite (rawTol tol w)) three f)
 
   unfit-breaks : unfit tol w ≡ true → admits tol a x w ≡ false
   unfit-breaks u = one-truth (admits tol a x w) false (λ h. fails (sym u ∙ admitted-fit h) tt) (λ h. absurd h)
@@ -190,7 +195,9 @@ module _ (tol a x : Float) where
     where
       go : (b : Bool) → fold (countedRow tol a x) (Passed (worseNormalized a x n w) (worseRaw a x r w)) rows ≡ verdict rows (worseNormalized a x n w) (worseRaw a x r w)
           → fold (countedRow tol a x) (cond b (Passed (worseNormalized a x n w) (worseRaw a x r w)) Failed) rows
-          ≡ cond (b && all (admits tol a x) rows) (Passed (fold (worseNormalized a x) (worseNormalized a x n w) rows) (fold (worseRaw a x) (worseRaw a x r w) rows)) Failed
+          ≡ cond (b && all (admits tol a x) rows)
+          (Passed (fold (worseNormalized a x) (worseNormalized a x n w) rows) (fold (worseRaw a x) (worseRaw a x r w) rows))
+          Failed
       go true h = h
       go false h = failed-stays rows
 

@@ -38,7 +38,12 @@ module _ (q : Request) where
   unfolding afterCapOn afterCap
   cap-same rows h (Passed n r) = refl
   cap-same rows h Failed =
-      rw (table-unreachable tol (q .«a_prev») rows, table-flat tol (q .«a_prev») rows, h, table-narrowed tol (q .«a_prev») (record { low = lower q; high = upper q }) rows)
+      rw (
+        table-unreachable tol (q .«a_prev») rows,
+        table-flat tol (q .«a_prev») rows,
+        h,
+        table-narrowed tol (q .«a_prev») (record { low = lower q; high = upper q }) rows,
+      )
 
   rows-answer : (rows : List Row) → fromFinding q (foundOf tol (q .«a_prev») rows) ≡ ofRows q rows
   unfolding foundOf ofRows withCap rowsNo

@@ -48,7 +48,8 @@ module _ (cert : Asked) where
     near-end zero b c x t h = refl
     near-end (suc n) b c x t h = absurd (omega arith)
 
-    pub near-found : (n : ℕ) (b : Bool) (c : Certificate) (x : Float) (t : ℕ) (u v : Float) → 0 < n → b ≡ false → c ≡ Passed u v → neighbours cert low n b c x t ≡ Found x u v (t + 1)
+    pub near-found : (n : ℕ) (b : Bool) (c : Certificate) (x : Float) (t : ℕ) (u v : Float) → 0 < n → b ≡ false → c ≡ Passed u v
+        → neighbours cert low n b c x t ≡ Found x u v (t + 1)
     unfolding neighbours
     near-found zero b c x t u v h e f = absurd (omega arith)
     near-found (suc n) b c x t u v h e f = rw (e, f)

@@ -110,5 +110,6 @@ module _ (l : List Float) (n : ℕ) (b : Block) (h : 8 * n + 8 ≤ length l) whe
 
   pub put-more : blocksFrom (sets l (8 * n) (doublesIn b)) 0 (n + 1) ≡ blocksFrom l 0 n ++ (b ∷ [])
   put-more =
-      rw put-is
-      (blocks-more after 0 n ∙ ap₂ (λ (bs : List Block) (d : Block). bs ++ (d ∷ [])) (blocks-same after l 0 n (λ i k. before-put i (omega arith))) (ap (blockAt after) (omega arith) ∙ block-put))
+      let front = blocks-same after l 0 n (λ i k. before-put i (omega arith)) in
+      let last : blockAt after (0 + n) ≡ b = ap (blockAt after) (omega arith) ∙ block-put in
+      rw put-is (blocks-more after 0 n ∙ ap₂ (λ (bs : List Block) (d : Block). bs ++ (d ∷ [])) front last)

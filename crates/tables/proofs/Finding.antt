@@ -38,7 +38,8 @@ module _ (tol a : Float) where
   unmeetable-stays (w ∷ rows) = go (unfit tol w) (unmeetable w) (empty w) (unmeetable-stays rows)
     where
       go : (u m e : Bool) → pass someUnmeetable rows ≡ cond (any (unfit tol) rows) someUnfit someUnmeetable
-          → pass (foundReading someUnmeetable (cond u Unfit (cond m Unmeetable (cond e Silent (Says (blockOf tol a w)))))) rows ≡ cond (u || any (unfit tol) rows) someUnfit someUnmeetable
+          → pass (foundReading someUnmeetable (cond u Unfit (cond m Unmeetable (cond e Silent (Says (blockOf tol a w)))))) rows
+          ≡ cond (u || any (unfit tol) rows) someUnfit someUnmeetable
       go true m e rest = unfit-stays rows
       go false true e rest = rest
       go false false true rest = rest

@@ -14,7 +14,8 @@ use Rattle.tables.specs.ByBlocks.{cutByBlock, faulty}
 use Rattle.tables.specs.declared.projection.Class.the-variants.{Unreachable, Flat}
 
 module _ (tol a : Float) where
-  table-scan : (p : Row → Bool) (r : Block → Bool) → ((w : Row) → p w ≡ (not (empty w) && r (blockOf tol a w))) → (rows : List Row) → any r (blocks tol a rows) ≡ any p rows
+  table-scan : (p : Row → Bool) (r : Block → Bool) → ((w : Row) → p w ≡ (not (empty w) && r (blockOf tol a w)))
+      → (rows : List Row) → any r (blocks tol a rows) ≡ any p rows
   unfolding any blocks
   table-scan p r h [] = refl
   table-scan p r h (w ∷ rows) = rw (h w) (go (empty w) (table-scan p r h rows))
@@ -38,6 +39,7 @@ module _ (tol a : Float) where
   table-narrowed s (w ∷ rows) = go (empty w) (λ s. table-narrowed s rows)
     where
       go : (e : Bool) → ((s : Span) → fold (cutByBlock tol) s (blocks tol a rows) ≡ fold (narrowed tol a) s rows)
-          → fold (cutByBlock tol) s (cond e (blocks tol a rows) (blockOf tol a w ∷ blocks tol a rows)) ≡ fold (narrowed tol a) (cond e s (cutByBlock tol s (blockOf tol a w))) rows
+          → fold (cutByBlock tol) s (cond e (blocks tol a rows) (blockOf tol a w ∷ blocks tol a rows))
+          ≡ fold (narrowed tol a) (cond e s (cutByBlock tol s (blockOf tol a w))) rows
       go true rest = rest s
       go false rest = rest (cutByBlock tol s (blockOf tol a w))

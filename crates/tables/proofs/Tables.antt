@@ -51,7 +51,8 @@ module _ (tol a x : Float) where
   -- a row that is not refused counts as its block does, or not at all
   row-counted : (w : Row) (rows : List Row) → unfit tol w ≡ false → unmeetable w ≡ false
       → ((c : Certificate) → fold (countedBlock tol x) c (blocks tol a rows) ≡ fold (countedRow tol a x) c rows)
-      → (c : Certificate) → fold (countedBlock tol x) c (cond (empty w) (blocks tol a rows) (blockOf tol a w ∷ blocks tol a rows)) ≡ fold (countedRow tol a x) (countedRow tol a x c w) rows
+      → (c : Certificate) → fold (countedBlock tol x) c (cond (empty w) (blocks tol a rows) (blockOf tol a w ∷ blocks tol a rows))
+      ≡ fold (countedRow tol a x) (countedRow tol a x c w) rows
   unfolding fold readingOf countedReading
   row-counted w rows u m rest c = rw (u, m) (go (empty w))
     where
@@ -72,4 +73,7 @@ pub table-certificate : (q : Request) (rows : List Row) → any (unfit (q .toler
     → certificateOn q (blocks (q .tolerances .feas) (q .«a_prev») rows) ≡ certificate q rows
 unfolding certificateOn
 table-certificate q rows u m =
-    fun-ext (λ x. ap (λ (c : Certificate). cond (between q x) c Failed) (rows-counted (q .tolerances .feas) (q .«a_prev») x rows u m (Passed zero zero)) ∙ certificate-counted q rows x)
+    fun-ext
+    (λ x.
+    let same = rows-counted (q .tolerances .feas) (q .«a_prev») x rows u m (Passed zero zero) in
+    ap (λ (c : Certificate). cond (between q x) c Failed) same ∙ certificate-counted q rows x)

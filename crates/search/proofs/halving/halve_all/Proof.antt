@@ -12,7 +12,9 @@ use Rattle.search.proofs.halving.halve_all.Tie as tie
 
 abbrev Inv-loop : tie.InvT-loop
 Inv-loop q table e₀ left₀ e left =
-    (left ≤ 64) × (e .tried + left ≤ e₀ .tried + 64) × (halvings (certificateOn q (blocksOf table)) left (stops e) e ≡ halvings (certificateOn q (blocksOf table)) 64 (stops e₀) e₀)
+    (left ≤ 64)
+    × (e .tried + left ≤ e₀ .tried + 64)
+    × (halvings (certificateOn q (blocksOf table)) left (stops e) e ≡ halvings (certificateOn q (blocksOf table)) 64 (stops e₀) e₀)
 
 abbrev μ-loop : tie.MeasureT-loop
 μ-loop q table e₀ left₀ e left = left
@@ -28,7 +30,9 @@ returns : tie.Need-returns Inv-loop μ-loop
 returns c =
     let at = c .before .before .before in
     let a = at .before .before .args in
-    sym (halvings-stop (certificateOn (a .q) (blocksOf (a .table .now))) (at .loop .left) (at .loop .e) (sym (c .before .at-an-end .ensures) ∙ c .if1 .taken)) ∙ at .loop .inv .2
+    let cert = certificateOn (a .q) (blocksOf (a .table .now)) in
+    let stop = sym (c .before .at-an-end .ensures) ∙ c .if1 .taken in
+    sym (halvings-stop cert (at .loop .left) (at .loop .e) stop) ∙ at .loop .inv .2
 
 halve-requires : tie.Need-halve-requires Inv-loop μ-loop
 halve-requires c κs =

@@ -51,7 +51,8 @@ returns-2 c =
     let l = at .loop in
     let cert = certificateOn (a .q) (blocksOf (a .table .now)) in
     let passed = sym (n .certify .ensures) ∙ c .before .worst-normalized .given .1 in
-    (sym (near-found cert (a .s .low) (6 - l .tried) (lt (l .x) (a .s .low)) (cert (l .x)) (l .x) (l .tried) _ _ (omega arith) (n .before .if1 .left) passed) ∙ l .inv .2, omega arith)
+    let here = near-found cert (a .s .low) (6 - l .tried) (lt (l .x) (a .s .low)) (cert (l .x)) (l .x) (l .tried) _ _ (omega arith) (n .before .if1 .left) passed in
+    (sym here ∙ l .inv .2, omega arith)
 
 enum-told : tie.Need-enum-told Inv-loop μ-loop
 enum-told c =

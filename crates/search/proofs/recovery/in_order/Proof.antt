@@ -9,7 +9,10 @@ finite-requires-2 : tie.Need-finite-requires-2
 finite-requires-2 c κs = search needs
 
 returns : tie.Need-returns
-returns c = simp (c .before .if2 .taken, ← c .before .before .finite2 .ensures, c .before .before .before .if1 .taken, ← c .before .before .before .before .finite .ensures)
+returns c =
+    let high = c .before .before in
+    let low = high .before .before in
+    simp (c .before .if2 .taken, ← high .finite2 .ensures, high .before .if1 .taken, ← low .finite .ensures)
 
 returns-2 : tie.Need-returns-2
 returns-2 c = search needs

@@ -50,7 +50,8 @@ returns : tie.Need-returns
 returns c =
     let f = c .before .before .before .before in
     let a = f .before .before .before .before in
-    table-answers (a .args .q) (a .args .rows .now) (length (a .args .table .now)) (a .pre) (f .fill .last .1 .1 .1 .0) _ _ (c .enum-told .given .1) (f .fill .ensures .0)
+    let t = f .fill .last .1 .1 .1 .0 in
+    table-answers (a .args .q) (a .args .rows .now) (length (a .args .table .now)) (a .pre) t _ _ (c .enum-told .given .1) (f .fill .ensures .0)
 
 same-length-2 : tie.Need-same-length-2
 same-length-2 c = search needs
@@ -59,7 +60,8 @@ returns-2 : tie.Need-returns-2
 returns-2 c =
     let f = c .before .before .before .before in
     let a = f .before .before .before .before in
-    table-answers (a .args .q) (a .args .rows .now) (length (a .args .table .now)) (a .pre) (f .fill .last .1 .1 .1 .0) _ _ (c .enum-told2 .given .1) (f .fill .ensures .0)
+    let t = f .fill .last .1 .1 .1 .0 in
+    table-answers (a .args .q) (a .args .rows .now) (length (a .args .table .now)) (a .pre) t _ _ (c .enum-told2 .given .1) (f .fill .ensures .0)
 
 same-length-3 : tie.Need-same-length-3
 same-length-3 c = search needs

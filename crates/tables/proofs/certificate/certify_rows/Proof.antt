@@ -22,7 +22,8 @@ Inv-loop tol table x worst₀ k₀ worst k =
     (k ≤ length table / 8)
     × T (fromZero (worst .normalized))
     × T (fromZero (worst .raw))
-    × (fold (countedBlock tol x) (Passed (worst .normalized) (worst .raw)) (blocksFrom table k (length table / 8 - k)) ≡ fold (countedBlock tol x) (Passed zero zero) (blocksOf table))
+    × (fold (countedBlock tol x) (Passed (worst .normalized) (worst .raw)) (blocksFrom table k (length table / 8 - k))
+    ≡ fold (countedBlock tol x) (Passed zero zero) (blocksOf table))
 
 abbrev μ-loop : tie.MeasureT-loop
 μ-loop tol table x worst₀ k₀ worst k =
@@ -77,7 +78,8 @@ loop-less c =
 
 loop-again : tie.Need-loop-again Inv-loop μ-loop
 loop-again c =
-    let at = c .before .before .before .before .before .before .before in
+    let j = c .before .before .before .before in
+    let at = j .before .before .before in
     let a = at .before .before .args in
     let l = a .table .now in
     let n = length l / 8 in
@@ -85,11 +87,12 @@ loop-again c =
     let f = countedBlock (a .tol) (a .x) in
     let s = at .loop .worst in
     let w = c .count .ensures in
-    let e = sym (c .before .before .before .before .judge .ensures ∙ ap (judged (a .tol) (a .x)) (c .before .before .before .before .before .block-at .ensures)) ∙ c .before .before .normalized .given .1 in (
+    let fit = sym (j .judge .ensures ∙ ap (judged (a .tol) (a .x)) (j .before .block-at .ensures)) ∙ c .before .before .normalized .given .1 in
+    let e = count-fits (s .normalized) (s .raw) (judged (a .tol) (a .x) (blockAt l k)) _ _ _ _ _ fit (w .normalized-is) (w .raw-is) in (
       omega arith,
       w .normalized-from,
       w .raw-from,
-      ap (λ (t : Certificate). fold f t (blocksFrom l (k + 1) (n - (k + 1)))) (count-fits (s .normalized) (s .raw) (judged (a .tol) (a .x) (blockAt l k)) _ _ _ _ _ e (w .normalized-is) (w .raw-is))
+      ap (λ (t : Certificate). fold f t (blocksFrom l (k + 1) (n - (k + 1)))) e
           ∙ (sym (fold-on l k n f (Passed (s .normalized) (s .raw)) (omega arith)) ∙ at .loop .inv .3),
     )
 
