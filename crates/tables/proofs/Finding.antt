@@ -15,16 +15,16 @@ use Rattle.rows.specs.declared.reading.Reading.the-variants.{Unfit, Unmeetable,
 use Rattle.tables.specs.Table.{blocks}
 use Rattle.tables.specs.Findings.{Finding, someUnfit, someUnmeetable, allBlocks, foundOf, found, start, unmet, withBlock, foundReading, foundRow}
 
+pub reading-unfit : (r : Reading) → foundReading someUnfit r ≡ someUnfit
+unfolding foundReading unmet withBlock
+reading-unfit Unfit = refl
+reading-unfit Unmeetable = refl
+reading-unfit Silent = refl
+reading-unfit (Says b) = refl
+
 module _ (tol a : Float) where
   abbrev pass : Finding → List Row → Finding
   pass s rows = fold (foundRow tol a) s rows
-
-  reading-unfit : (r : Reading) → foundReading someUnfit r ≡ someUnfit
-  unfolding foundReading unmet withBlock
-  reading-unfit Unfit = refl
-  reading-unfit Unmeetable = refl
-  reading-unfit Silent = refl
-  reading-unfit (Says b) = refl
 
   unfit-stays : (rows : List Row) → pass someUnfit rows ≡ someUnfit
   unfolding fold

@@ -35,12 +35,23 @@ fn add(table: &mut [f64], s: Filled, b: Block) -> Filled
     ensures { λ v. ⌜ (foundIn (now (table .exit)) v ≡ withBlock (foundIn (now (table .entry)) s) b) × (countOf v ≤ countOf s + 1) ⌝ }
 {
     match s {
-        Filled::SomeUnfit => s,
-        Filled::SomeUnmeetable => s,
+        Filled::SomeUnfit => Filled::SomeUnfit,
+        Filled::SomeUnmeetable => Filled::SomeUnmeetable,
         Filled::Ready(n) => {
             table::put(table, n, b);
             Filled::Ready(n + 1)
         }
+    }
+}
+
+// The state as it was, made anew: what is handed on is copied to its last byte, for every row.
+fn same(s: Filled) -> Filled
+    ensures { λ v. ⌜ v ≡ s ⌝ }
+{
+    match s {
+        Filled::SomeUnfit => Filled::SomeUnfit,
+        Filled::SomeUnmeetable => Filled::SomeUnmeetable,
+        Filled::Ready(n) => Filled::Ready(n),
     }
 }
 
@@ -52,7 +63,7 @@ fn enter(r: Reading, table: &mut [f64], s: Filled) -> Filled
     match r {
         Reading::Unfit => Filled::SomeUnfit,
         Reading::Unmeetable => refuse(s),
-        Reading::Silent => s,
+        Reading::Silent => same(s),
         Reading::Says(b) => add(table, s, b),
     }
 }

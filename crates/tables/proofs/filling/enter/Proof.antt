@@ -1,5 +1,6 @@
+use mathlib.Core.Path.{ap}
 use native.Mathlib.Omega.{arith}
-use Rattle.tables.specs.Findings.{foundReading}
+use Rattle.tables.specs.Findings.{foundReading, foundIn, countOf}
 use borrow.Author.Needs.{needs}
 use Rattle.tables.proofs.filling.enter.Statement.{statement}
 use Rattle.tables.proofs.filling.enter.Tie as tie
@@ -15,6 +16,9 @@ refuse-requires c κs = search needs
 
 enum-told-3 : tie.Need-enum-told-3
 enum-told-3 c = search needs
+
+same-requires : tie.Need-same-requires
+same-requires c κs = search needs
 
 enum-known-r : tie.Need-enum-known-r
 enum-known-r c = search needs
@@ -34,7 +38,9 @@ returns-2 c =
 
 returns-3 : tie.Need-returns-3
 unfolding foundReading
-returns-3 c = (simp (c .enum-told3 .given .1), omega arith)
+returns-3 c =
+    let a = c .before .before .before .before .args in
+    (simp (c .before .enum-told3 .given .1) (ap (foundIn (a .table .now)) (c .same .ensures)), omega (arith, ap countOf (c .same .ensures)))
 
 same-length : tie.Need-same-length
 same-length c = search needs
@@ -53,6 +59,7 @@ enter-spec =
     enum-told-2
     refuse-requires
     enum-told-3
+    same-requires
     enum-known-r
     add-requires
     returns
