@@ -7,7 +7,7 @@ use lib.Ieee.{Float}
 use Rattle.refusals.specs.Refusals.{unless, _or_}
 use Rattle.refusals.specs.Outcome.{Outcome}
 use Rattle.following.specs.Places.{countsOf, gridTime}
-use Rattle.sampling.specs.Grid.{gridSize, gridNo, gridEntry, gridEntries}
+use Rattle.gridding.specs.Grid.{gridSize, gridNo, gridEntry, gridEntries}
 use Rattle.following.specs.declared.pass.Counts.{Counts}
 use Rattle.sampling.specs.declared.samples.Sampled.{Sampled}
 use Rattle.sampling.specs.declared.samples.Sampled.the-variants.{Done, Refused}

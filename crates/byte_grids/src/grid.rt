@@ -1,13 +1,13 @@
 // t to s on an even grid, on byte lists.
 use byte_checks::samples;
 use byte_lists::doubles;
+use gridding::grid::t_to_s_topp2_grid;
 use refusals::most;
-use sampling::grid::t_to_s_topp2_grid;
 use sampling::samples::Sampled;
 ghost use Prim.Native.Nat.{_+_, _/_, _≤_, min};
 ghost use lib.ListN.{length};
 ghost use Rattle.refusals.specs.Most.{mostStations, mostSamples};
-ghost use Rattle.sampling.specs.Grid.{gridNo};
+ghost use Rattle.gridding.specs.Grid.{gridNo};
 ghost use Rattle.byte_grids.specs.ByteGrids.{GridReplied, WholeGridded, ByteGridded};
 
 // Worked out aside, then written as bytes.

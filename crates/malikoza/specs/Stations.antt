@@ -11,7 +11,7 @@ use Rattle.refusals.specs.Refusals.{onlyIf}
 use Rattle.refusals.specs.Outcome.{answered}
 use Rattle.following.specs.declared.pass.Counts.{Counts}
 use Rattle.sampling.specs.declared.samples.Sampled.the-variants.{Done, Refused}
-use Rattle.sampling.specs.Grid.{gridEntry, gridEntries}
+use Rattle.gridding.specs.Grid.{gridEntry, gridEntries}
 use Rattle.byte_lists.specs.Bytes.{doublesOf, byteOf}
 use Rattle.byte_samples.specs.ByteSamples.{listCounts, listStation, listByteNo}
 use Rattle.byte_grids.specs.ByteGrids.{gridCounts, gridByteNo}

@@ -1,4 +1,2 @@
 pub mod Samples
 pub mod List
-pub mod Grid
-pub mod Ending

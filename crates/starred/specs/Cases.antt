@@ -14,7 +14,7 @@ use Rattle.search.specs.declared.answer.Answer.the-variants.{Certified, Refused
 use Rattle.interpolation.specs.Slopes.{Slopes}
 use Rattle.interpolation.specs.Times.{Times}
 use Rattle.sampling.specs.List.{Listed}
-use Rattle.sampling.specs.Grid.{Gridded}
+use Rattle.gridding.specs.Grid.{Gridded}
 use Rattle.interpolation.specs.declared.times.Timed.{Timed}
 use Rattle.interpolation.specs.declared.times.Timed.the-variants.{Done as Timed·Done}
 use Rattle.interpolation.specs.declared.slopes.Sloped.the-variants.{Done as Sloped·Done}

@@ -9,9 +9,9 @@ use lib.ListN.{length, take}
 use lib.Ieee.{Float}
 use Rattle.refusals.specs.Most.{mostSamples}
 use Rattle.refusals.specs.Refusals.{unless, _or_}
-use Rattle.sampling.specs.Grid.{gridSize, finalAdded, evenNo, gridNo, gridStation, gridEntry, gridEntries, Gridded}
+use Rattle.gridding.specs.Grid.{gridSize, finalAdded, evenNo, gridNo, gridStation, gridEntry, gridEntries, Gridded}
 use Rattle.sampling.specs.declared.samples.Sampled.{Sampled}
-use Rattle.sampling.proofs.Samplings.{sized, gridded}
+use Rattle.gridding.proofs.Griddings.{sized, gridded}
 use Rattle.byte_lists.proofs.Aside.{room-within, room-fits, Aside}
 use Rattle.byte_grids.specs.ByteGrids.{gridCounts}
 use Rattle.byte_checks.proofs.Written.{written-entries, counts}

@@ -7,7 +7,7 @@ use native.Mathlib.Omega.{arith}
 use borrow.Author.Needs.{needs}
 use lib.Ieee.{Float}
 use Rattle.sampling.specs.Samples.{timedNo}
-use Rattle.sampling.specs.Grid.{gridNo}
+use Rattle.gridding.specs.Grid.{gridNo}
 use Rattle.refusals.proofs.Outcomes.{or-stop, refuses}
 use Rattle.byte_checks.proofs.Early.{counts-pass, counts-refused}
 use Rattle.byte_grids.proofs.grid.whole.Statement.{statement}

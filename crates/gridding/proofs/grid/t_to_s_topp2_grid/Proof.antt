@@ -1,12 +1,12 @@
--- `sampling::grid::t_to_s_topp2_grid` meets its contract. Assumes nothing.
+-- `gridding::grid::t_to_s_topp2_grid` meets its contract. Assumes nothing.
 use mathlib.Core.Path.{sym, _∙_}
 use native.Mathlib.Omega.{arith}
 use borrow.Author.Needs.{needs}
 use Rattle.refusals.proofs.Outcomes.{refuses}
 use Rattle.following.proofs.Walks.{counts-written}
-use Rattle.sampling.proofs.Samplings.{gridded, grid-passed, finished}
-use Rattle.sampling.proofs.grid.t_to_s_topp2_grid.Statement.{statement}
-use Rattle.sampling.proofs.grid.t_to_s_topp2_grid.Tie as tie
+use Rattle.gridding.proofs.Griddings.{gridded, grid-passed, finished}
+use Rattle.gridding.proofs.grid.t_to_s_topp2_grid.Statement.{statement}
+use Rattle.gridding.proofs.grid.t_to_s_topp2_grid.Tie as tie
 
 refusal-requires : tie.Need-refusal-requires
 refusal-requires c κs = search needs

@@ -1,9 +1,9 @@
--- `sampling::grid::final_added` meets its contract. Assumes nothing.
+-- `gridding::grid::final_added` meets its contract. Assumes nothing.
 use borrow.Author.Tests.{eq-eqb, ne-eqb}
 use borrow.Author.Needs.{needs}
-use Rattle.sampling.specs.Grid.{finalAdded}
-use Rattle.sampling.proofs.grid.final_added.Statement.{statement}
-use Rattle.sampling.proofs.grid.final_added.Tie as tie
+use Rattle.gridding.specs.Grid.{finalAdded}
+use Rattle.gridding.proofs.grid.final_added.Statement.{statement}
+use Rattle.gridding.proofs.grid.final_added.Tie as tie
 
 last-requires : tie.Need-last-requires
 last-requires c κs = search needs

@@ -1,8 +1,8 @@
--- `sampling::grid::size` meets its contract. Assumes nothing.
+-- `gridding::grid::size` meets its contract. Assumes nothing.
 use borrow.Author.Needs.{needs}
-use Rattle.sampling.specs.Grid.{gridSize}
-use Rattle.sampling.proofs.grid.size.Statement.{statement}
-use Rattle.sampling.proofs.grid.size.Tie as tie
+use Rattle.gridding.specs.Grid.{gridSize}
+use Rattle.gridding.proofs.grid.size.Statement.{statement}
+use Rattle.gridding.proofs.grid.size.Tie as tie
 
 last-requires : tie.Need-last-requires
 last-requires c κs = search needs

@@ -1,6 +1,4 @@
 // t to s on an even grid, the Rust's UniformTimeGrid.
-use crate::samples;
-use crate::samples::Sampled;
 use following::pass;
 use following::pass::Counts;
 use following::pass::Source;
@@ -8,6 +6,8 @@ use number::size;
 use refusals::chain::or;
 use refusals::chain::unless;
 use refusals::most;
+use sampling::samples;
+use sampling::samples::Sampled;
 ghost use mathlib.Core.Path.{_≡_};
 ghost use mathlib.Core.Bool.{cond, not, _&&_};
 ghost use Prim.Native.Nat.{_+_, _-_, _<_, _≤_};
@@ -17,8 +17,8 @@ ghost use lib.Ieee.{le};
 ghost use Rattle.number.specs.Doubles.{zero};
 ghost use Rattle.refusals.specs.Most.{mostSamples};
 ghost use Rattle.loops.specs.Upto.{at};
-ghost use Rattle.sampling.specs.Grid.{lastOf, gridSize, finalAdded, evenNo, gridNo, Gridded};
-ghost use Rattle.sampling.specs.Ending.{entryMore, Ended};
+ghost use Rattle.gridding.specs.Grid.{lastOf, gridSize, finalAdded, evenNo, gridNo, Gridded};
+ghost use Rattle.gridding.specs.Ending.{entryMore, Ended};
 
 fn last(x: &[f64]) -> f64
     requires { ⌜ 0 < length (now x) ⌝ }

@@ -1,9 +1,9 @@
--- `sampling::grid::even_refusal` meets its contract. Assumes nothing.
+-- `gridding::grid::even_refusal` meets its contract. Assumes nothing.
 use borrow.Author.Needs.{needs}
 use Rattle.refusals.proofs.Chains.{chained}
-use Rattle.sampling.specs.Grid.{evenNo}
-use Rattle.sampling.proofs.grid.even_refusal.Statement.{statement}
-use Rattle.sampling.proofs.grid.even_refusal.Tie as tie
+use Rattle.gridding.specs.Grid.{evenNo}
+use Rattle.gridding.proofs.grid.even_refusal.Statement.{statement}
+use Rattle.gridding.proofs.grid.even_refusal.Tie as tie
 
 size-requires : tie.Need-size-requires
 size-requires c κs = search needs

@@ -1,9 +1,9 @@
--- `sampling::grid::last` meets its contract. Assumes nothing.
+-- `gridding::grid::last` meets its contract. Assumes nothing.
 use mathlib.Core.Path.{refl}
 use borrow.Author.Needs.{needs}
-use Rattle.sampling.specs.Grid.{lastOf}
-use Rattle.sampling.proofs.grid.last.Statement.{statement}
-use Rattle.sampling.proofs.grid.last.Tie as tie
+use Rattle.gridding.specs.Grid.{lastOf}
+use Rattle.gridding.proofs.grid.last.Statement.{statement}
+use Rattle.gridding.proofs.grid.last.Tie as tie
 
 sub-result : tie.Need-sub-result
 sub-result c = search needs

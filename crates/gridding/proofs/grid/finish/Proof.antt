@@ -1,10 +1,10 @@
--- `sampling::grid::finish` meets its contract. Assumes nothing.
+-- `gridding::grid::finish` meets its contract. Assumes nothing.
 use mathlib.Core.Path.{sym, _∙_}
 use native.Mathlib.Omega.{arith}
 use borrow.Author.Needs.{needs}
 use Rattle.loops.specs.Upto.{at}
-use Rattle.sampling.proofs.grid.finish.Statement.{statement}
-use Rattle.sampling.proofs.grid.finish.Tie as tie
+use Rattle.gridding.proofs.grid.finish.Statement.{statement}
+use Rattle.gridding.proofs.grid.finish.Tie as tie
 
 final-added-requires : tie.Need-final-added-requires
 final-added-requires c κs = search needs

@@ -1,8 +1,8 @@
--- `sampling::grid::has_room` meets its contract. Assumes nothing.
+-- `gridding::grid::has_room` meets its contract. Assumes nothing.
 use native.Mathlib.Numerals.{add-one}
 use native.Mathlib.Nat.{add-zero}
-use Rattle.sampling.proofs.grid.has_room.Statement.{statement}
-use Rattle.sampling.proofs.grid.has_room.Tie as tie
+use Rattle.gridding.proofs.grid.has_room.Statement.{statement}
+use Rattle.gridding.proofs.grid.has_room.Tie as tie
 
 returns : tie.Need-returns
 returns c = rw (c .if1 .taken, add-one)

@@ -1,12 +1,12 @@
--- `sampling::grid::refusal` meets its contract. Assumes nothing.
+-- `gridding::grid::refusal` meets its contract. Assumes nothing.
 use mathlib.Core.Path.{sym, _∙_}
 use native.Mathlib.Omega.{arith}
 use borrow.Author.Needs.{needs}
-use Rattle.sampling.specs.Grid.{gridNo}
+use Rattle.gridding.specs.Grid.{gridNo}
 use Rattle.refusals.proofs.Outcomes.{or-stop, or-next}
 use Rattle.sampling.proofs.Samplings.{timed}
-use Rattle.sampling.proofs.grid.refusal.Statement.{statement}
-use Rattle.sampling.proofs.grid.refusal.Tie as tie
+use Rattle.gridding.proofs.grid.refusal.Statement.{statement}
+use Rattle.gridding.proofs.grid.refusal.Tie as tie
 
 refusal-requires : tie.Need-refusal-requires
 refusal-requires c κs = search needs

@@ -1,9 +1,9 @@
--- `sampling::grid::entry_more` meets its contract. Assumes nothing.
+-- `gridding::grid::entry_more` meets its contract. Assumes nothing.
 use mathlib.Core.Path.{refl}
 use borrow.Author.Needs.{needs}
-use Rattle.sampling.specs.Ending.{entryMore}
-use Rattle.sampling.proofs.grid.entry_more.Statement.{statement}
-use Rattle.sampling.proofs.grid.entry_more.Tie as tie
+use Rattle.gridding.specs.Ending.{entryMore}
+use Rattle.gridding.proofs.grid.entry_more.Statement.{statement}
+use Rattle.gridding.proofs.grid.entry_more.Tie as tie
 
 add-written : tie.Need-add-written
 add-written c = search needs
