@@ -17,7 +17,7 @@ use Rattle.refusals.specs.Most.{mostSamples}
 use Rattle.loops.proofs.Counting.{and-left, and-right, count-le, count-more, count-stretch, first-is, first-before, first-le}
 use Rattle.pieces.specs.Pieces.{stationInside, stationIn}
 use Rattle.following.specs.Places.{intervalOf, isBefore, isInside, isPast, stationAt, countsOf}
-use Rattle.following.specs.Following.{reaches, inStep, inRoom, fitting, Reaches, Standing, stays, Bounded, oneMore, moreInside, tallied}
+use Rattle.following.specs.Following.{reaches, inStep, inRoom, fitting, Reaches, Standing, stays, AllInside, Bounded, oneMore, moreInside, tallied}
 use Rattle.following.specs.declared.interval.Cursor.{Cursor}
 use Rattle.following.specs.declared.pass.Counts.{Counts}
 use Rattle.following.specs.declared.pass.Source.{Source}
@@ -71,13 +71,23 @@ not-below-too y x z h e = go (lt x z) (λ l. fails e (le-lt-transitive y x z (ho
     go false n = refl
 
 -- a time that stays has the walk's interval, and is inside with the walk's own time
-module _ (s a t : List Float) (w : Cursor) (x : Float) (h : Standing s a t w) (k : w .interval ≡ intervalOf t (w .time)) (i : isInside t (w .time) ≡ true) (y : stays t w x ≡ true) where
+module _
+    (s a t : List Float)
+    (w : Cursor)
+    (x : Float)
+    (h : Standing s a t w)
+    (k : w .interval ≡ intervalOf t (w .time))
+    (i : isInside t (w .time) ≡ true)
+    (y : stays t w x ≡ true) where
   not-below : le (w .time) x ≡ true
   not-below = and-left (le (w .time) x) (not (lt (at t (w .interval + 1)) x)) y
 
+  not-past : not (lt (at t (w .interval + 1)) x) ≡ true
+  not-past = and-right (le (w .time) x) (not (lt (at t (w .interval + 1)) x)) y
+
   pub same-interval : w .interval ≡ intervalOf t x
   unfolding intervalOf
-  same-interval = sym (first-is _ _ _ (h .within) (λ j l. ap not (still-below _ _ _ (h .behind j l) not-below)) (λ l. and-right (le (w .time) x) (not (lt (at t (w .interval + 1)) x)) y))
+  same-interval = sym (first-is _ _ _ (h .within) (λ j l. ap not (still-below _ _ _ (h .behind j l) not-below)) (λ l. not-past))
 
   pub stays-inside : isInside t x ≡ true
   unfolding isInside isBefore
@@ -86,7 +96,7 @@ module _ (s a t : List Float) (w : Cursor) (x : Float) (h : Standing s a t w) (k
       let b = not-below-too (w .time) x (at t 0) not-below (inside-not-before t (w .time) i) in
       rw (b, ← same-interval, lt-ltb (w .interval) (length t - 1) (omega arith))
 
-pub inside-more : (t : List Float) (f : ℕ → Float) (start j : ℕ) → ((k : ℕ) → start ≤ k → k < j → isInside t (f k) ≡ true) → isInside t (f j) ≡ true → (k : ℕ) → start ≤ k → k < j + 1 → isInside t (f k) ≡ true
+pub inside-more : (t : List Float) (f : ℕ → Float) (start j : ℕ) → AllInside t f start j → isInside t (f j) ≡ true → AllInside t f start (j + 1)
 inside-more t f start j h i k l g =
     let m : k ≤ j = omega arith in
     ⊎-elim (λ e. rw e i) (h k l) (eq-or-lt-of-le m)
@@ -99,7 +109,7 @@ pub counts-turn : (t : List Float) (f : ℕ → Float) (n : ℕ) (c : Counts) �
 unfolding countsOf tallied oneMore
 counts-turn t f n c e = rw e (simp count-more)
 
-counts-stretch : (t : List Float) (f : ℕ → Float) (n m : ℕ) (c : Counts) → c ≡ countsOf t f n n → ((k : ℕ) → n ≤ k → k < n + m → isInside t (f k) ≡ true) → moreInside c m ≡ countsOf t f (n + m) (n + m)
+counts-stretch : (t : List Float) (f : ℕ → Float) (n m : ℕ) (c : Counts) → c ≡ countsOf t f n n → AllInside t f n (n + m) → moreInside c m ≡ countsOf t f (n + m) (n + m)
 unfolding countsOf moreInside
 counts-stretch t f n m c e h =
     rw (
@@ -111,7 +121,7 @@ counts-stretch t f n m c e h =
     (simp add-zero)
 
 -- the same, up to r
-pub counts-up-to : (t : List Float) (f : ℕ → Float) (n r : ℕ) (c d : Counts) → c ≡ countsOf t f n n → n ≤ r → ((k : ℕ) → n ≤ k → k < r → isInside t (f k) ≡ true) → d ≡ moreInside c (r - n) → d ≡ countsOf t f r r
+pub counts-up-to : (t : List Float) (f : ℕ → Float) (n r : ℕ) (c d : Counts) → c ≡ countsOf t f n n → n ≤ r → AllInside t f n r → d ≡ moreInside c (r - n) → d ≡ countsOf t f r r
 counts-up-to t f n r c d e l h g =
     let q : n + (r - n) ≡ r = omega arith in
     g ∙ counts-stretch t f n (r - n) c e (λ k a b. h k a (omega arith)) ∙ ap (λ (m : ℕ). countsOf t f m m) q
@@ -143,6 +153,16 @@ in-room source x n room h =
     (leb-true n mostSamples (and-left (leb n mostSamples) later h), leb-true n room (and-left (leb n room) last p), reached source x n (and-right (leb n room) last p))
 
 module _ (s a t : List Float) (source : Source) (x : List Float) (n room : ℕ) where
+  pub fitted : fitting s a t source x n room ≡ true
+      → (length a ≡ length s) × (length t ≡ length s) × (2 ≤ length s) × (n ≤ mostSamples) × (n ≤ room) × Reaches source x n
+  unfolding fitting
+  fitted h =
+      let lists = inStep (length s) (length a) (length t) in
+      let times = inRoom n room (reaches source (length x) n) in
+      let p = in-step _ _ _ (and-left lists times h) in
+      let q = in-room source x n room (and-right lists times h) in
+      (p .0, p .1, p .2, q .0, q .1, q .2)
+
   pub fits-by-room : (b : Bool) → inStep (length s) (length a) (length t) ≡ true → inRoom n room (reaches source (length x) n) ≡ b → fitting s a t source x n room ≡ b
   unfolding fitting
   fits-by-room b h k = rw h k

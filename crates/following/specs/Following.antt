@@ -20,6 +20,10 @@ abbrev pub timeOf : Source → List Float → ℕ → Float
 timeOf Listed x j = at x j
 timeOf (Even t0 dt) x j = gridTime t0 dt j
 
+-- the station at that time
+abbrev pub stationOf : List Float → List Float → List Float → Source → List Float → ℕ → Float
+stationOf s a t source x j = stationAt s a t (timeOf source x j)
+
 -- the stations at the first n times of a source, and their counts, where a call fits: as many speeds and times as stations, 2 at the least, and as many times as the
 -- limit lets, a list of them has and there is room for; else no time and nothing written
 abbrev pub reaches : Source → ℕ → ℕ → Bool
@@ -37,7 +41,7 @@ fitting s a t source x n room = inStep (length s) (length a) (length t) && inRoo
 
 pub record Passed (fits : Bool) (s a t : List Float) (source : Source) (x : List Float) (n : ℕ) (old : List Float) (r : Counts) (new : List Float) : Type 0 where
   pub counts : r ≡ cond fits (countsOf t (timeOf source x) n n) (countsOf t (timeOf source x) 0 0)
-  pub left : new ≡ cond fits (filled (λ j. stationAt s a t (timeOf source x j)) n old) old
+  pub left : new ≡ cond fits (filled (stationOf s a t source x) n old) old
 
 -- ---- cited by inner functions alone
 -- a list of times has the first n
@@ -55,11 +59,15 @@ pub record Standing (s a t : List Float) (w : Cursor) : Type 0 where
 abbrev pub stays : List Float → Cursor → Float → Bool
 stays t w x = le (w .time) x && not (lt (at t (w .interval + 1)) x)
 
--- the times from `start` up to r are inside, and the first r entries are those of f
+-- the times from `start` up to r are inside
+abbrev pub AllInside : List Float → (ℕ → Float) → ℕ → ℕ → Type 0
+AllInside t x start r = (k : ℕ) → start ≤ k → k < r → isInside t (x k) ≡ true
+
+-- they are, and the first r entries are those of f
 pub record Followed (t : List Float) (x f : ℕ → Float) (start n r : ℕ) (old new : List Float) : Type 0 where
   pub onward : start ≤ r
   pub within : r ≤ n
-  pub inside : (k : ℕ) → start ≤ k → k < r → isInside t (x k) ≡ true
+  pub inside : AllInside t x start r
   pub left : new ≡ filled f r old
 
 -- no count is over the entries, and these are 65,536 at most

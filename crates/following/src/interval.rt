@@ -51,7 +51,8 @@ fn look_from(t: &[f64], x: f64, y: f64, from: usize) -> usize
 
 // The piece of interval k, where there is one: the old one if the interval is the old one.
 fn turned(p: Piece, s: &[f64], a: &[f64], t: &[f64], old: usize, k: usize) -> Piece
-    requires { ⌜ (length (now a) ≡ length (now s)) × (length (now t) ≡ length (now s)) × (k ≤ length (now s)) × (old + 1 < length (now s) → p ≡ pieceAt (now s) (now a) (now t) old) ⌝ }
+    requires { ⌜ (length (now a) ≡ length (now s)) × (length (now t) ≡ length (now s)) × (k ≤ length (now s))
+        × (old + 1 < length (now s) → p ≡ pieceAt (now s) (now a) (now t) old) ⌝ }
     ensures { λ r. ⌜ (k + 1 < length (now (s .entry)) → r ≡ pieceAt (now (s .entry)) (now (a .entry)) (now (t .entry)) k) ⌝ }
 {
     if k == old {

@@ -10,7 +10,8 @@ ghost use lib.ListN.{length};
 ghost use Rattle.loops.specs.Upto.{filled};
 ghost use Rattle.refusals.specs.Most.{mostSamples};
 ghost use Rattle.following.specs.Places.{intervalOf, isBefore, isInside, stationAt, gridTime, countsOf};
-ghost use Rattle.following.specs.Following.{timeOf, reaches, inStep, inRoom, fitting, Passed, Reaches, Bounded, oneMore, moreInside, tallied, Standing, stays, Followed};
+ghost use Rattle.following.specs.Following.{timeOf, stationOf, reaches, inStep, inRoom, fitting, Passed};
+ghost use Rattle.following.specs.Following.{Reaches, Standing, stays, Followed, Bounded, oneMore, moreInside, tallied};
 
 // The times before, inside and past, and the entries written.
 pub struct Counts {
@@ -143,9 +144,13 @@ fn follow(
     n: usize,
     out: &mut [f64],
 ) -> usize
-    requires { ⌜ (length (now t) ≡ length (now s)) × (1 ≤ length (now t)) × Standing (now s) (now a) (now t) w × (w .interval ≡ intervalOf (now t) (w .time)) × (start ≤ n) × (n ≤ length (now out)) × Reaches source (now x) n
-        × (now out ≡ filled (λ j. stationAt (now s) (now a) (now t) (timeOf source (now x) j)) start (now out)) ⌝ }
-    ensures { λ r. ⌜ Followed (now (t .entry)) (timeOf source (now (x .entry))) (λ j. stationAt (now (s .entry)) (now (a .entry)) (now (t .entry)) (timeOf source (now (x .entry)) j)) start n r (now (out .entry)) (now (out .exit)) ⌝ }
+    requires { ⌜ (length (now t) ≡ length (now s)) × (1 ≤ length (now t))
+        × Standing (now s) (now a) (now t) w × (w .interval ≡ intervalOf (now t) (w .time))
+        × (start ≤ n) × (n ≤ length (now out)) × Reaches source (now x) n
+        × (now out ≡ filled (stationOf (now s) (now a) (now t) source (now x)) start (now out)) ⌝ }
+    ensures { λ r. ⌜ Followed (now (t .entry)) (timeOf source (now (x .entry)))
+        (stationOf (now (s .entry)) (now (a .entry)) (now (t .entry)) source (now (x .entry)))
+        start n r (now (out .entry)) (now (out .exit)) ⌝ }
 {
     if !is_inside(t, w.time, w.interval) {
         return start;
@@ -172,9 +177,10 @@ fn walked(
     n: usize,
     out: &mut [f64],
 ) -> Counts
-    requires { ⌜ (length (now a) ≡ length (now s)) × (length (now t) ≡ length (now s)) × (2 ≤ length (now s)) × (n ≤ mostSamples) × (n ≤ length (now out)) × Reaches source (now x) n ⌝ }
+    requires { ⌜ (length (now a) ≡ length (now s)) × (length (now t) ≡ length (now s)) × (2 ≤ length (now s))
+        × (n ≤ mostSamples) × (n ≤ length (now out)) × Reaches source (now x) n ⌝ }
     ensures { λ r. ⌜ (r ≡ countsOf (now (t .entry)) (timeOf source (now (x .entry))) n n)
-        × (now (out .exit) ≡ filled (λ j. stationAt (now (s .entry)) (now (a .entry)) (now (t .entry)) (timeOf source (now (x .entry)) j)) n (now (out .entry))) ⌝ }
+        × (now (out .exit) ≡ filled (stationOf (now (s .entry)) (now (a .entry)) (now (t .entry)) source (now (x .entry))) n (now (out .entry))) ⌝ }
 {
     let mut c = Counts {
         before: 0,

@@ -103,7 +103,8 @@ fn entry_more(c: Counts) -> Counts
 // The last station after the first n entries, where it is asked for and due: an entry, but no time.
 fn finish(s: &[f64], t: &[f64], t0: f64, n: usize, end: bool, c: Counts, out: &mut [f64]) -> Counts
     requires { ⌜ (0 < length (now s)) × (0 < length (now t)) × (n + cond end 1 0 ≤ length (now out)) × (c .written ≤ mostSamples) ⌝ }
-    ensures { λ r. ⌜ Ended (end && finalAdded (now (s .entry)) (now (t .entry)) t0 n (at (now (out .entry)) (n - 1))) n (lastOf (now (s .entry))) c (now (out .entry)) r (now (out .exit)) ⌝ }
+    ensures { λ r. ⌜ Ended (end && finalAdded (now (s .entry)) (now (t .entry)) t0 n (at (now (out .entry)) (n - 1)))
+        n (lastOf (now (s .entry))) c (now (out .entry)) r (now (out .exit)) ⌝ }
 {
     if end {
         if final_added(s, t, t0, n, out) {

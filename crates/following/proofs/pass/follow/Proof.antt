@@ -1,22 +1,20 @@
 -- `following::pass::follow` meets its contract. Assumes nothing.
-use Prim.Native.Nat.{ℕ, _≤_, _<_, _+_, _-_}
+use Prim.Native.Nat.{_≤_, _+_, _-_}
 use mathlib.Core.Path.{_≡_, refl, sym, _∙_}
-use mathlib.Core.Bool.{true}
 use native.Mathlib.Omega.{arith}
 use borrow.Author.Needs.{needs}
 use borrow.Author.Tests.{not-false}
 use lib.ListN.{length, length-set}
 use Rattle.loops.specs.Upto.{filled}
 use Rattle.loops.proofs.Filling.{fill-turn}
-use Rattle.following.specs.Places.{isInside, stationAt}
-use Rattle.following.specs.Following.{timeOf}
+use Rattle.following.specs.Following.{timeOf, stationOf, AllInside}
 use Rattle.following.proofs.Walks.{reaches-less, inside-within, same-interval, stays-inside, station-held, inside-more}
 use Rattle.following.proofs.pass.follow.Statement.{statement}
 use Rattle.following.proofs.pass.follow.Tie as tie
 
 abbrev Inv-loop : tie.InvT-loop
 Inv-loop s a t w source x start n out₀ j₀ out j =
-    (start ≤ j) × (j ≤ n) × (length out ≡ length out₀) × ((k : ℕ) → start ≤ k → k < j → isInside t (timeOf source x k) ≡ true) × (out ≡ filled (λ m. stationAt s a t (timeOf source x m)) j out₀)
+    (start ≤ j) × (j ≤ n) × (length out ≡ length out₀) × AllInside t (timeOf source x) start j × (out ≡ filled (stationOf s a t source x) j out₀)
 
 abbrev μ-loop : tie.MeasureT-loop
 μ-loop s a t w source x start n out₀ j₀ out j = n - j

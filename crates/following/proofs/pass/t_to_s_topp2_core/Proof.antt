@@ -1,10 +1,24 @@
 -- `following::pass::t_to_s_topp2_core` meets its contract. Assumes nothing.
-use mathlib.Core.Path.{refl, sym, _∙_}
+use mathlib.Core.Path.{_≡_, refl, sym, _∙_}
+use mathlib.Core.Bool.{Bool, true, false}
 use borrow.Author.Needs.{needs}
 use lib.ListN.{length}
-use Rattle.following.proofs.Walks.{counts-none, in-step, in-room, fits-by-room, out-of-step}
+use Rattle.following.specs.Following.{fitting}
+use Rattle.following.proofs.Walks.{counts-none, fitted, fits-by-room, out-of-step}
 use Rattle.following.proofs.pass.t_to_s_topp2_core.Statement.{statement}
 use Rattle.following.proofs.pass.t_to_s_topp2_core.Tie as tie
+
+-- whether what the call is given fits
+abbrev Fits : tie.After-in-step → Bool → Type 0
+Fits c b =
+    let g = c .before .before .before .before .before .before .args in
+    fitting (g .s .now) (g .a .now) (g .t .now) (g .source) (g .x .now) (g .n) (length (g .out .now)) ≡ b
+
+fits : (c : tie.Then2) → Fits (c .before .before .before .before) true
+fits c =
+    let p = c .before .before .before in
+    let room = rw (c .before .before .reaches .ensures) at (sym (c .before .in-room .ensures) ∙ c .if2 .taken) in
+    fits-by-room _ _ _ _ _ _ _ _ (sym (p .before .in-step .ensures) ∙ p .if1 .taken) room
 
 in-step-requires : tie.Need-in-step-requires
 in-step-requires c κs = search needs
@@ -16,61 +30,39 @@ in-room-requires : tie.Need-in-room-requires
 in-room-requires c κs = search needs
 
 walked-requires : tie.Need-walked-requires
-walked-requires c κs =
-    let r = c .before .before in
-    let p = r .before .before .before in
-    let a = p .before .before .before .before .before .before .before .args in
-    let step = in-step _ _ _ (sym (p .before .in-step .ensures) ∙ p .if1 .taken) in
-    let room = in-room (a .source) (a .x .now) _ _ (rw (r .before .before .reaches .ensures) at (sym (r .before .in-room .ensures) ∙ r .if2 .taken)) in
-    (step .0, step .1, step .2, room .0, room .1, room .2)
+walked-requires c κs = fitted _ _ _ _ _ _ _ (fits (c .before .before))
 
 same-length : tie.Need-same-length
 same-length c = search needs
 
 returns : tie.Need-returns
 returns c =
-    let r = c .before .before .before .before .before in
-    let p = r .before .before .before in
-    let a = p .before .before .before .before .before .before .before .args in
-    let room = rw (r .before .before .reaches .ensures) at (sym (r .before .in-room .ensures) ∙ r .if2 .taken) in
-    let e = fits-by-room (a .s .now) (a .a .now) (a .t .now) (a .source) (a .x .now) (a .n) (length (a .out .now)) _ (sym (p .before .in-step .ensures) ∙ p .if1 .taken) room in
+    let e = fits (c .before .before .before .before .before) in
     let f = c .before .before .walked .ensures in
     record { counts = rw e (f .0); left = rw e (f .1) }
 
 walked-requires-2 : tie.Need-walked-requires-2
-walked-requires-2 c κs =
-    let r = c .before .before in
-    let p = r .before .before .before in
-    let a = p .before .before .before .before .before .before .before .args in
-    let step = in-step _ _ _ (sym (p .before .in-step .ensures) ∙ p .if1 .taken) in
-    let room = in-room (a .source) (a .x .now) _ _ (rw (r .before .before .reaches .ensures) at (sym (r .before .in-room .ensures) ∙ r .if2 .taken)) in
-    (step .0, step .1, step .2, room .0, room .1, room .2)
+walked-requires-2 c κs = fitted _ _ _ _ _ _ _ (fits (c .before .before))
 
 same-length-2 : tie.Need-same-length-2
 same-length-2 c = search needs
 
 returns-2 : tie.Need-returns-2
 returns-2 c =
-    let r = c .before .before .before .before .before in
-    let p = r .before .before .before in
-    let a = p .before .before .before .before .before .before .before .args in
-    let room = rw (r .before .before .reaches .ensures) at (sym (r .before .in-room .ensures) ∙ r .if2 .taken) in
-    let e = fits-by-room (a .s .now) (a .a .now) (a .t .now) (a .source) (a .x .now) (a .n) (length (a .out .now)) _ (sym (p .before .in-step .ensures) ∙ p .if1 .taken) room in
+    let e = fits (c .before .before .before .before .before) in
     let f = c .before .before .walked2 .ensures in
     record { counts = rw e (f .0); left = rw e (f .1) }
 
 returns-3 : tie.Need-returns-3
 returns-3 c =
     let p = c .before .before .before in
-    let a = p .before .before .before .before .before .before .before .args in
     let room = rw (c .before .before .reaches .ensures) at (sym (c .before .in-room .ensures) ∙ c .if2 .left) in
-    let e = fits-by-room (a .s .now) (a .a .now) (a .t .now) (a .source) (a .x .now) (a .n) (length (a .out .now)) _ (sym (p .before .in-step .ensures) ∙ p .if1 .taken) room in
+    let e : Fits (p .before) false = fits-by-room _ _ _ _ _ _ _ _ (sym (p .before .in-step .ensures) ∙ p .if1 .taken) room in
     record { counts = rw e (counts-none _ _); left = rw e refl }
 
 returns-4 : tie.Need-returns-4
 returns-4 c =
-    let a = c .before .before .before .before .before .before .before .args in
-    let e = out-of-step (a .s .now) (a .a .now) (a .t .now) (a .source) (a .x .now) (a .n) (length (a .out .now)) (sym (c .before .in-step .ensures) ∙ c .if1 .left) in
+    let e : Fits (c .before) false = out-of-step _ _ _ _ _ _ _ (sym (c .before .in-step .ensures) ∙ c .if1 .left) in
     record { counts = rw e (counts-none _ _); left = rw e refl }
 
 pub t-to-s-topp2-core-spec : {M : Type 1} → statement M

@@ -24,7 +24,10 @@ one-requires-3 : tie.Need-one-requires-3
 one-requires-3 c κs = search needs
 
 one-more-requires : tie.Need-one-more-requires
-one-more-requires c κs = (c .before .before .before .one .ensures .1, c .before .before .one2 .ensures .1, c .one3 .ensures .1, c .before .before .before .before .before .before .before .pre .2)
+one-more-requires c κs =
+    let i = c .before .before in
+    let b = i .before in
+    (b .one .ensures .1, i .one2 .ensures .1, c .one3 .ensures .1, b .before .before .before .before .pre .2)
 
 returns : tie.Need-returns
 unfolding tallied isPast
@@ -32,7 +35,14 @@ returns c =
     let p = c .before in
     let i = p .before .before in
     let b = i .before in
-    rw (← b .before .is-inside .ensures, ← b .before .before .is-before .ensures, ← p .before .neither .ensures, ← p .one3 .ensures .0, ← i .one2 .ensures .0, ← b .one .ensures .0)
+    rw (
+      ← b .before .is-inside .ensures,
+      ← b .before .before .is-before .ensures,
+      ← p .before .neither .ensures,
+      ← p .one3 .ensures .0,
+      ← i .one2 .ensures .0,
+      ← b .one .ensures .0,
+    )
     (c .one-more .ensures)
 
 pub tally-spec : {M : Type 1} → statement M

@@ -7,8 +7,8 @@ use lib.ListN.{length, length-set}
 use Rattle.loops.specs.Upto.{filled, at}
 use Rattle.loops.proofs.Filling.{length-filled, fill-none, fill-turn, fill-on, fill-stands}
 use Rattle.refusals.specs.Most.{mostSamples}
-use Rattle.following.specs.Places.{stationAt, countsOf}
-use Rattle.following.specs.Following.{timeOf, Standing}
+use Rattle.following.specs.Places.{countsOf}
+use Rattle.following.specs.Following.{timeOf, stationOf, Standing}
 use Rattle.following.proofs.Walks.{reaches-less, counts-none, counts-turn, counts-up-to, counts-written, counts-bounded}
 use Rattle.following.proofs.pass.walked.Statement.{statement}
 use Rattle.following.proofs.pass.walked.Tie as tie
@@ -16,7 +16,7 @@ use Rattle.following.proofs.pass.walked.Tie as tie
 abbrev Inv-loop : tie.InvT-loop
 Inv-loop s a t source x n out₀ c₀ w₀ j₀ out c w j =
     (j ≤ n) × (n ≤ mostSamples) × (n ≤ length out) × Standing s a t w × (c ≡ countsOf t (timeOf source x) j j) × (length out ≡ length out₀)
-    × (out ≡ filled (λ m. stationAt s a t (timeOf source x m)) j out₀)
+    × (out ≡ filled (stationOf s a t source x) j out₀)
 
 abbrev μ-loop : tie.MeasureT-loop
 μ-loop s a t source x n out₀ c₀ w₀ j₀ out c w j = n - j
@@ -26,8 +26,15 @@ piece-at-requires c κs = search needs
 
 loop-holds : tie.Need-loop-holds Inv-loop μ-loop
 loop-holds c =
-    let p = c .before .before .before .before .before .before .pre in
-    (search needs, p .3, p .4, record { within = search needs; behind = λ i l. absurd (omega arith); held = λ l. c .piece-at .ensures }, counts-none _ _, refl, sym (fill-none _ _))
+    let p = c .before .before .before .before .before .before .pre in (
+      search needs,
+      p .3,
+      p .4,
+      record { within = search needs; behind = λ i l. absurd (omega arith); held = λ l. c .piece-at .ensures },
+      counts-none _ _,
+      refl,
+      sym (fill-none _ _),
+    )
 
 time-of-requires : tie.Need-time-of-requires Inv-loop μ-loop
 time-of-requires c κs =
@@ -89,7 +96,9 @@ loop-again c =
     let d = (rw v at (c .before .before .before .before .before .tally .ensures)) ∙ counts-turn _ _ _ _ (l .4) in
     let g = fill-on _ _ _ _ _ _ (f .onward) e (f .left) in
     let q = ap length g ∙ length-filled _ _ _ (omega (arith, f .within, l .2, l .5)) in
-    (f .within, l .1, omega (arith, q, l .2, l .5), c .before .before .before .before .before .before .before .advance .ensures .2, counts-up-to _ _ _ _ _ _ d (f .onward) (f .inside) (c .more-inside .ensures), q, g)
+    let w = c .before .before .before .before .before .before .before .advance .ensures in
+    let n = counts-up-to _ _ _ _ _ _ d (f .onward) (f .inside) (c .more-inside .ensures) in
+    (f .within, l .1, omega (arith, q, l .2, l .5), w .2, n, q, g)
 
 same-length : tie.Need-same-length Inv-loop μ-loop
 same-length c = search needs
