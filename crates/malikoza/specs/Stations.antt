@@ -18,7 +18,8 @@ use Rattle.byte_grids.specs.ByteGrids.{gridCounts, gridByteNo}
 use Rattle.replies.specs.CountsTold.{Counted}
 
 -- what a call leaves: its number and counts, and the bytes of the first n entries at the front of the output
-pub record Tallied (done : Counts) (refusal : ℕ) (entry : ℕ → Float) (n : ℕ) (old : List ℕ) (number before₀ before inside₀ inside past₀ past written₀ written : ℕ) (new : List ℕ) : Type 0 where
+pub record Tallied (done : Counts) (refusal : ℕ) (entry : ℕ → Float) (n : ℕ) (old : List ℕ)
+    (number before₀ before inside₀ inside past₀ past written₀ written : ℕ) (new : List ℕ) : Type 0 where
   pub counted : Counted (answered (Done done) Refused refusal) number before₀ before inside₀ inside past₀ past written₀ written
   pub left : new ≡ onlyIf refusal (filled (byteOf entry) (8 * n) old) old
 

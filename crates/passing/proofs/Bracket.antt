@@ -1,5 +1,5 @@
--- The halvings of recovery: they start between the middle, which passes, and the projected upper end, which was rejected, and end with a passing double and a rejected one that have no double between them.
--- Assumes nothing.
+-- The halvings of recovery: they start between the middle, which passes, and the projected upper end, which was rejected,
+-- and end with a passing double and a rejected one that have no double between them. Assumes nothing.
 use mathlib.Core.Path.{_≡_, refl, sym, ap, subst}
 use mathlib.Core.Logic.{_⊎_, inl, inr}
 use mathlib.Core.List.{List}
@@ -93,11 +93,14 @@ module _ (q : Request) (rows : List Row) (high : Float) where
         rejected-fails = B .rejected-fails;
         upto-high = B .upto-high;
         order = G .order;
-        empty = λ g F l k. N g (record { fit = F; above = between (e .passing) g (e .rejected) (G .lower .above) (G .upper .above) (lt-le (e .passing) g l) (lt-le g (e .rejected) k) }) l k;
+        empty = λ g F l k.
+            let above = between (e .passing) g (e .rejected) (G .lower .above) (G .upper .above) (lt-le (e .passing) g l) (lt-le g (e .rejected) k) in
+            N g (record { fit = F; above = above }) l k;
       }
 
   -- one halving
-  replaced-bracket : (z : ℕ) (e : Ends) (t n : ℕ) (c : Certificate) → verdict c ≡ passes q rows (middle (e .passing) (e .rejected)) → Bracket z e t → T (not (stops e)) → t ≤ bound (suc n)
+  replaced-bracket : (z : ℕ) (e : Ends) (t n : ℕ) (c : Certificate)
+      → verdict c ≡ passes q rows (middle (e .passing) (e .rejected)) → Bracket z e t → T (not (stops e)) → t ≤ bound (suc n)
       → (s : ℕ) × Bracket z (replaced e (middle (e .passing) (e .rejected)) c) s × (s ≤ bound n)
   unfolding replaced
   replaced-bracket z e t n c v B h b = go c v

@@ -124,7 +124,9 @@ module _ (q : Request) (D : Doubles q) where
   upper-fits = minimum-lattice binary64 .closed (q .curr .interval .upper) (q .curr .cap) (D .upper-fits) (D .cap-fits)
 
   pub high-fits : (rows : List Row) → T (fits binary64 (projected q rows .high))
-  high-fits = fold-keeps (λ (s : Span). s .high) minimum (narrowed tol a) (asHigh tol a) (brings-high tol a) (Fits binary64) (Fits binary64) (minimum-lattice binary64 .closed) (high-held tol a) ends upper-fits
+  high-fits =
+      fold-keeps (λ (s : Span). s .high) minimum (narrowed tol a) (asHigh tol a) (brings-high tol a)
+      (Fits binary64) (Fits binary64) (minimum-lattice binary64 .closed) (high-held tol a) ends upper-fits
 
   zero-number : T (number doubles.zero)
   unfolding ofBits

@@ -1,10 +1,12 @@
--- A natural number rounded to p binary digits: no number of p digits lies nearer, on either side. So the mean of two numbers rounds to one strictly between them, where a number of p digits is.
--- Nothing here is about floats. Assumes nothing.
+-- A natural number rounded to p binary digits: no number of p digits lies nearer, on either side. So the mean of two numbers
+-- rounds to one strictly between them, where a number of p digits is. Nothing here is about floats. Assumes nothing.
 use mathlib.Core.Path.{_≡_, refl, sym, ap, _∙_}
 use mathlib.Core.Logic.{_⊎_, inl, inr}
 use mathlib.Core.Bool.{Bool, true, false, not}
 use Prim.Native.Nat.{ℕ, suc, _+_, _-_, _*_, _/_, _%_, _^_, _≤_, _<_, compare, Ordering, Ordering·lt, Ordering·eq, Ordering·gt}
-use native.Mathlib.Nat.{le-refl, le-trans, le-of-eq, le-of-lt, le-antisymm, lt-of-lt-of-le, lt-of-le-of-lt, lt-irrefl, eq-or-lt-of-le, eq-zero-or-pos, mul-one, one-mul, mul-assoc, mul-le-mul-right, mul-lt-mul-of-pos-right, lt-of-mul-lt-mul-right, le-div-iff-mul-le, div-add-mod', suc-mul, lt-div-mul-add}
+use native.Mathlib.Nat.{le-refl, le-trans, le-of-eq, le-of-lt, le-antisymm, lt-of-lt-of-le, lt-of-le-of-lt, lt-irrefl, eq-or-lt-of-le, eq-zero-or-pos}
+use native.Mathlib.Nat.{mul-one, one-mul, suc-mul, mul-assoc, mul-le-mul-right, mul-lt-mul-of-pos-right, lt-of-mul-lt-mul-right}
+use native.Mathlib.Nat.{le-div-iff-mul-le, div-add-mod', lt-div-mul-add}
 use native.Mathlib.Omega.{arith}
 use lib.Dec.{T, isLe, isEq, leb, leb→le, nleb→lt, eqb→eq}
 use lib.Pow.{pow-add, pow-pos, pow-mono, pow-lt}
@@ -46,7 +48,10 @@ upto-short p g P h = elim (eq-or-lt-of-le h) [ inl e ↦ rw e (power-short p P) 
 
 -- one that is large enough is a multiple of 2 ^ k
 pub many : (p k g : ℕ) → 0 < p → Short p g → 2 ^ (p - 1 + k) ≤ g → (t : ℕ) × (g ≡ t * 2 ^ k)
-many p k g P s h = (s .lead * 2 ^ (s .zeros - k), s .is ∙ ap (λ (z : ℕ). s .lead * z) (sym (ap (λ (z : ℕ). 2 ^ z) (back (s .zeros) k enough)) ∙ pow-add 2 (s .zeros - k) k) ∙ sym (mul-assoc (s .lead) (2 ^ (s .zeros - k)) (2 ^ k)))
+many p k g P s h =
+    let d = s .zeros - k in
+    let parted : 2 ^ s .zeros ≡ 2 ^ d * 2 ^ k = sym (ap (λ (z : ℕ). 2 ^ z) (back (s .zeros) k enough)) ∙ pow-add 2 d k in
+    (s .lead * 2 ^ d, s .is ∙ ap (λ (z : ℕ). s .lead * z) parted ∙ sym (mul-assoc (s .lead) (2 ^ d) (2 ^ k)))
   where
     clash : s .zeros < k → ⊥
     clash l =

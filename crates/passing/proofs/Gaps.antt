@@ -1,5 +1,5 @@
--- Halving the gap between two values above zero, of which the upper is at most twice the lower: where a value lies strictly between, the middle does; each step leaves half the gap but for two units;
--- so that 64 steps leave nothing between. In any format. Assumes nothing.
+-- Halving the gap between two values above zero, of which the upper is at most twice the lower: where a value lies strictly between,
+-- the middle does; each step leaves half the gap but for two units; so that 64 steps leave nothing between. In any format. Assumes nothing.
 use mathlib.Core.Path.{_≡_}
 use Prim.Native.Nat.{ℕ, suc, _+_, _*_, _^_, _≤_, _<_}
 use native.Mathlib.Nat.{le-trans, le-of-lt, lt-of-mul-lt-mul-right, mul-le-mul-right, suc-mul}
@@ -58,7 +58,8 @@ module _ (f : Format) (tie : rnd (prec f) (2 ^ prec f + 1) ≡ 2 ^ prec f) (z : 
       let a = unitsOf f x in
       let b = unitsOf f y in
       let n = rnd (prec f) (M .left + M .right) in
-      let c = halves-between (prec f) (two f) tie a b (unitsOf f g) (M .left) (M .right) (units-short f x (G .lower)) (units-short f y (G .upper)) (units-short f g H) (M .first) (M .second)
+      let c = halves-between (prec f) (two f) tie a b (unitsOf f g) (M .left) (M .right)
+      (units-short f x (G .lower)) (units-short f y (G .upper)) (units-short f g H) (M .first) (M .second)
       (lt-at f x g a (unitsOf f g) (units-at f x (G .lower)) (units-at f g H) l)
       (lt-at f g y (unitsOf f g) b (units-at f g H) (units-at f y (G .upper)) k) in
       (at-lt f x m a n (units-at f x (G .lower)) (M .at) (c .0), at-lt f m y n b (M .at) (units-at f y (G .upper)) (c .1))
@@ -77,14 +78,16 @@ module _ (f : Format) (tie : rnd (prec f) (2 ^ prec f + 1) ≡ 2 ^ prec f) (z : 
     upper-half : Closer (prec f) z (rnd (prec f) (M .left + M .right)) (unitsOf f y) t
     upper-half =
         let n = M .left + M .right in
-        closer (prec f) z (unitsOf f x) (unitsOf f y) (2 ^ cut (prec f) n) (rnd (prec f) n) (unitsOf f y) t (some-digits f) (rnd-short (prec f) n (some-digits f)) (units-short f y (G .upper))
+        closer (prec f) z (unitsOf f x) (unitsOf f y) (2 ^ cut (prec f) n) (rnd (prec f) n) (unitsOf f y) t
+        (some-digits f) (rnd-short (prec f) n (some-digits f)) (units-short f y (G .upper))
         (omega (arith, G .from, above)) below rounded (omega (arith, off-down (prec f) n, M .first .down, M .second .down, above, below)) (omega (arith, above, below)) (G .steps)
 
     -- the middle for the upper end
     lower-half : Closer (prec f) z (unitsOf f x) (rnd (prec f) (M .left + M .right)) t
     lower-half =
         let n = M .left + M .right in
-        closer (prec f) z (unitsOf f x) (unitsOf f y) (2 ^ cut (prec f) n) (unitsOf f x) (rnd (prec f) n) t (some-digits f) (units-short f x (G .lower)) (rnd-short (prec f) n (some-digits f))
+        closer (prec f) z (unitsOf f x) (unitsOf f y) (2 ^ cut (prec f) n) (unitsOf f x) (rnd (prec f) n) t
+        (some-digits f) (units-short f x (G .lower)) (rnd-short (prec f) n (some-digits f))
         (G .from) above rounded (omega (arith, off-up (prec f) n, M .first .up, M .second .up, above, below)) (omega (arith, above, below)) (G .steps)
 
     pub gap-above : (s : ℕ) × Gap f z m y s × (s < t) × (s + s ≤ t + 4)

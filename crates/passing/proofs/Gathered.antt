@@ -2,7 +2,8 @@
 -- Assumes nothing.
 use mathlib.Core.Path.{_≡_, refl, sym, ap, _∙_, subst}
 use mathlib.Core.Logic.{inl, inr}
-use mathlib.Core.List.{List, [], _∷_, _++_, foldl, foldl-append, List·Memᴰ, List·Memᴰ·head, List·Memᴰ·tail, List·Memᴰ·not-nil, List·Memᴰ·append-cases, Memᴰ·append-left, Memᴰ·append-right}
+use mathlib.Core.List.{List, [], _∷_, _++_, foldl, foldl-append}
+use mathlib.Core.List.{List·Memᴰ, List·Memᴰ·head, List·Memᴰ·tail, List·Memᴰ·not-nil, List·Memᴰ·append-cases, Memᴰ·append-left, Memᴰ·append-right}
 use mathlib.Core.Bool.{Bool, true, false, not, _&&_, _||_}
 use lib.Dec.{T}
 use Rattle.number.proofs.Fractions.{or-l, or-r, or-split}
@@ -74,7 +75,8 @@ module _ {S A : Type 0} (part : S → A) (op : A → A → A) (f : S → Row →
   fold-gathered s [] = refl
   fold-gathered s (w ∷ l) = fold-gathered (f s w) l ∙ ap (λ (a : A). foldl op a (gathered g l)) (step s w) ∙ sym (foldl-append op (part s) (g w) (gathered g l))
 
-  pub fold-rows : (P : A → Type 0) → Semilattice P op → ((w : Row) → All P (g w)) → (s : S) → P (part s) → (l m : List Row) → Within l m → Within m l → part (fold f s l) ≡ part (fold f s m)
+  pub fold-rows : (P : A → Type 0) → Semilattice P op → ((w : Row) → All P (g w)) → (s : S) → P (part s)
+      → (l m : List Row) → Within l m → Within m l → part (fold f s l) ≡ part (fold f s m)
   fold-rows P L held s start l m h k =
       fold-gathered s l
       ∙ fold-same P op L (part s) (gathered g l) (gathered g m) start (gathered-held P g held l) (gathered-held P g held m) (gathered-within g l m h) (gathered-within g m l k)

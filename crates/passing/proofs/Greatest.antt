@@ -69,20 +69,26 @@ module _ (q : Request) (rows : List Row) where
         | inr g ↦ g
         | inl l ↦ elim (lt-or-le y (e .rejected) (passing-number y p) (lt-number (e .passing) (e .rejected) (E .order) .1)) [
           | inl k ↦ absurd (E .empty y G l k)
-          | inr k ↦ absurd (T-not (passes q rows (e .rejected)) (E .rejected-fails) (no-gap q rows (e .passing) (e .rejected) y (lt-le (e .passing) (e .rejected) (E .order)) k (E .passing-passes) p))
+          | inr k ↦
+              let less = lt-le (e .passing) (e .rejected) (E .order) in
+              let also = no-gap q rows (e .passing) (e .rejected) y less k (E .passing-passes) p in
+              absurd (T-not (passes q rows (e .rejected)) (E .rejected-fails) also)
         ]
       ];
     }
 
     start : (n r : Float) (t : ℕ) → T (not (passes q rows high)) → T (passes q rows (middle low high))
-        → Bracket q rows high (unitsOf binary64 (middle low high)) (record { passing = middle low high; «worst_normalized» = n; «worst_raw» = r; rejected = high; tried = t }) (2 ^ 53)
+        → Bracket q rows high (unitsOf binary64 (middle low high))
+        (record { passing = middle low high; «worst_normalized» = n; «worst_raw» = r; rejected = high; tried = t }) (2 ^ 53)
     start n r t f p =
         let from-zero : T (le nought low) = subst (λ (x : Float). T (le x low)) zero-is (low-from-zero q D rows) in
         let fit = high-fits q D rows in
         let upto : T (le (middle low high) high) = subst (λ (x : Float). T (le x high)) (sym (middle-is low high)) (middle-upto low high L F fit from-zero order large) in
         let l = below-rejected high (middle low high) f p upto in
         record {
-          gap = subst (λ (x : Float). Gap binary64 (unitsOf binary64 x) x high (2 ^ 53)) (sym (middle-is low high)) (first-gap low high L F fit from-zero order large (subst (λ (x : Float). T (lt x high)) (middle-is low high) l));
+          gap =
+              subst (λ (x : Float). Gap binary64 (unitsOf binary64 x) x high (2 ^ 53)) (sym (middle-is low high))
+              (first-gap low high L F fit from-zero order large (subst (λ (x : Float). T (lt x high)) (middle-is low high) l));
           passing-passes = p;
           rejected-fails = f;
           upto-high = le-reflexive high (finite-number high F);
@@ -129,7 +135,8 @@ module _ (q : Request) (rows : List Row) where
     }
 
 -- "that speed is the greatest passing double not above that end"
-pub greatest : (q : Request) (l : List Float) (x n r : Float) (t : ℕ) → Doubles q → recovered q l ≡ Certified x n r t → (x ≡ upper q → ⊥) → T (le smallest (projected q (rowsOf l) .high)) → Greatest q (rowsOf l) x
+pub greatest : (q : Request) (l : List Float) (x n r : Float) (t : ℕ) → Doubles q → recovered q l ≡ Certified x n r t
+    → (x ≡ upper q → ⊥) → T (le smallest (projected q (rowsOf l) .high)) → Greatest q (rowsOf l) x
 greatest q l x n r t D e cap large =
     let rows = rowsOf l in
     subst (Answers q rows) e (by-recovery (Answers q rows) (λ k. tt) q l (λ n r c is-cap. absurd (is-cap refl)) (λ L F o. ways q rows D large L F (in-order q rows L F o))) cap

@@ -1,5 +1,6 @@
--- The mean of two numbers as recovery takes it: half of each, rounded where it is odd, and the sum rounded to p digits. It is never outside the two; it lies strictly between them where a number of
--- p digits does; and it halves the gap but for three units. Nothing here is about floats. Assumes nothing.
+-- The mean of two numbers as recovery takes it: half of each, rounded where it is odd, and the sum rounded to p digits.
+-- It is never outside the two; it lies strictly between them where a number of p digits does; and it halves the gap but for three units.
+-- Nothing here is about floats. Assumes nothing.
 use mathlib.Core.Path.{_≡_, refl, sym, ap, _∙_}
 use mathlib.Core.Logic.{_⊎_, inl, inr}
 use Prim.Native.Nat.{ℕ, zero, suc, _+_, _-_, _*_, _%_, _^_, _≤_, _<_, max}
@@ -78,7 +79,10 @@ module _ (p : ℕ) (two : 2 ≤ p) (tie : rnd p (2 ^ p + 1) ≡ 2 ^ p) where
       go : (r : ℕ) → a % 2 ≡ r → (2 ^ p ≤ a) ⊎ (a < 2 ^ p) → (a < rnd p (x + y)) × (rnd p (x + y) < b)
       go zero e o = mean-between p a b g (x + y) P sg h k (omega (arith, even b sb B, H .up, H .down, K .up, K .down))
       go (suc zero) e (inl l) = absurd (omega (arith, even a sa l))
-      go (suc zero) e (inr l) = odd-below a b g (x + y) e (even b sb B) l B h k (omega (arith, even b sb B, H .up, H .down, K .up, K .down)) (omega (arith, even b sb B, H .up, H .down, K .up, K .down))
+      go (suc zero) e (inr l) =
+          odd-below a b g (x + y) e (even b sb B) l B h k
+          (omega (arith, even b sb B, H .up, H .down, K .up, K .down))
+          (omega (arith, even b sb B, H .up, H .down, K .up, K .down))
       go (suc (suc r)) e o = absurd (omega arith)
 
   -- below 2 ^ p the sum is exact

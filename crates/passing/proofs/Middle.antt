@@ -3,7 +3,8 @@ use mathlib.Core.Path.{_≡_, refl, sym, ap, _∙_, subst}
 use mathlib.Core.Logic.{_⊎_, inl, inr}
 use mathlib.Core.Bool.{Bool, true, false, true≢false}
 use Prim.Native.Nat.{ℕ, zero, suc, _+_, _-_, _*_, _/_, _%_, _^_, _≤_, _<_}
-use native.Mathlib.Nat.{le-trans, le-of-eq, lt-of-lt-of-le, lt-of-le-of-lt, add-zero, mul-one, one-mul, mul-comm, mul-assoc, mul-left-comm, mul-pos, mul-le-mul-right, mul-div-cancel, mul-mod-left, mul-div-mul-right, mod-lt, pow-suc, zero-lt-suc}
+use native.Mathlib.Nat.{le-trans, le-of-eq, lt-of-lt-of-le, lt-of-le-of-lt, mod-lt, zero-lt-suc, mul-pos, mul-le-mul-right}
+use native.Mathlib.Nat.{add-zero, mul-one, one-mul, mul-comm, mul-assoc, mul-left-comm, mul-div-cancel, mul-mod-left, mul-div-mul-right, pow-suc}
 use native.Mathlib.Omega.{arith}
 use lib.IntN.{negsuc}
 use lib.Dec.{T}
@@ -112,8 +113,10 @@ grid-is f n =
     let l = 2 ^ low f in
     let L : 0 < l = pow-pos (low f) in
     let k : size (n * l / l) - prec f ≡ cut (prec f) n = ap (λ (z : ℕ). size z - prec f) (mul-div-cancel n L) in
+    let c = 2 ^ cut (prec f) n in
+    let C : 0 < c = pow-pos (cut (prec f) n) in
     ap (λ (z : ℕ). closest (n * l) (l * 2 ^ z) * 2 ^ z) k
-    ∙ ap (λ (z : ℕ). z * 2 ^ cut (prec f) n) (closest-same (n * l) (l * 2 ^ cut (prec f) n) n (2 ^ cut (prec f) n) (mul-pos L (pow-pos (cut (prec f) n))) (pow-pos (cut (prec f) n)) (mul-assoc n l (2 ^ cut (prec f) n)))
+    ∙ ap (λ (z : ℕ). z * c) (closest-same (n * l) (l * c) n c (mul-pos L C) C (mul-assoc n l c))
 
 round-at : (f : Format) (n : ℕ) → rnd (prec f) n < overflow f → At f (round f false n (2 ^ low f)) (rnd (prec f) n)
 round-at f n h = subst (λ (z : ℕ). At f (round f false n (2 ^ low f)) z) (grid-is f n) (round-val f n (2 ^ low f) (rw grid-is h))
@@ -158,7 +161,9 @@ even-half : (f : Format) (x : Float) (a : ℕ) → At f x a → 0 < a → Short 
 even-half f x a h A s o e =
     let l = 2 ^ low f in
     let q : rnd (prec f) (a / 2) ≡ a / 2 = rnd-self (prec f) (a / 2) (some-digits f) (half-short (prec f) a s e) in
-    let i : mul f half x ≡ round f false (a / 2) l = mul-half f x a h A ∙ round-same f false (1 * a) (2 * l) (a / 2) l (mul-pos (zero-lt-suc 1) (pow-pos (low f))) (pow-pos (low f)) (same a (a / 2) l (omega arith)) in
+    let L : 0 < l = pow-pos (low f) in
+    let i : mul f half x ≡ round f false (a / 2) l =
+    mul-half f x a h A ∙ round-same f false (1 * a) (2 * l) (a / 2) l (mul-pos (zero-lt-suc 1) L) L (same a (a / 2) l (omega arith)) in
     rw i (subst (λ (z : ℕ). At f (round f false (a / 2) l) z) q (round-at f (a / 2) (lt-of-le-of-lt (le-of-eq q) (omega arith))))
   where
     same : (a b l : ℕ) → a ≡ b * 2 → 1 * a * l ≡ b * (2 * l)
@@ -202,9 +207,17 @@ half-of f x H = go (a % 2) refl (le-or-lt (2 ^ prec f) a) (units-at f x H) (unit
     a = unitsOf f x
 
     go : (r : ℕ) → a % 2 ≡ r → (2 ^ prec f ≤ a) ⊎ (a < 2 ^ prec f) → At f x a → Short (prec f) a → a < overflow f → Halved f x
-    go zero e d h s o = record { units = a / 2; at = even-half f x a h (units-pos f x H) s o e; is-half = record { up = omega arith; down = omega arith; tie = λ t. absurd (omega arith) } }
+    go zero e d h s o = record {
+      units = a / 2;
+      at = even-half f x a h (units-pos f x H) s o e;
+      is-half = record { up = omega arith; down = omega arith; tie = λ t. absurd (omega arith) };
+    }
     go (suc zero) e (inl l) h s o = let t = many (prec f) 1 a (some-digits f) s (le-trans (pow-mono (omega (arith, some-digits f))) l) in absurd (omega (arith, t .1))
-    go (suc zero) e (inr l) h s o = record { units = a / 2 + a / 2 % 2; at = odd-half f x a h l o e; is-half = record { up = omega arith; down = omega arith; tie = λ t. omega arith } }
+    go (suc zero) e (inr l) h s o = record {
+      units = a / 2 + a / 2 % 2;
+      at = odd-half f x a h l o e;
+      is-half = record { up = omega arith; down = omega arith; tie = λ t. omega arith };
+    }
     go (suc (suc r)) e d h s o = absurd (omega arith)
 
 -- ---- the middle
@@ -231,7 +244,9 @@ mean-of f x y H K l =
     let less = lt-at f x y (unitsOf f x) (unitsOf f y) (units-at f x H) (units-at f y K) l in
     let w = mean-within (prec f) (unitsOf f x) (unitsOf f y) (p .units) (q .units) (some-digits f) (units-short f x H) (units-short f y K) (p .is-half) (q .is-half) less in
     let n = rnd (prec f) (p .units + q .units) in
-    let v : At f (mean f x y) n = add-at f (mul f half x) (mul f half y) (p .units) (q .units) (unitsOf f y) (p .at) (q .at) (units-short f y K) (units-fine f y K) (omega (arith, p .is-half .up, q .is-half .up)) in
+    let v : At f (mean f x y) n =
+    add-at f (mul f half x) (mul f half y) (p .units) (q .units) (unitsOf f y) (p .at) (q .at)
+    (units-short f y K) (units-fine f y K) (omega (arith, p .is-half .up, q .is-half .up)) in
     record {
       left = p .units;
       right = q .units;

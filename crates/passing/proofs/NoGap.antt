@@ -1,5 +1,5 @@
--- Demand 3: "Passing doubles have no gap." Each residual of a row rises or falls with the speed, rounded as it is, so that between two speeds that a row admits it admits every speed.
--- Assumes nothing.
+-- Demand 3: "Passing doubles have no gap." Each residual of a row rises or falls with the speed, rounded as it is,
+-- so that between two speeds that a row admits it admits every speed. Assumes nothing.
 use mathlib.Core.Path.{_≡_, refl}
 use mathlib.Core.Logic.{_⊎_, inl, inr}
 use mathlib.Core.List.{List, [], _∷_}
@@ -59,10 +59,14 @@ mid-mul c x y z C X Z m = elim (le-total nought c tt (finite-number c C)) [
 ]
 
 mid-add : (k x y z : Float) → T (finite k) → T (finite x) → T (finite z) → Mid x y z → Mid (add binary64 x k) (add binary64 y k) (add binary64 z k)
-mid-add k x y z K = mid-keeps (λ v. add binary64 v k) (λ u v U W. add-keeps binary64 k u v (add-number binary64 u k (finite-number u U) K) (add-number binary64 v k (finite-number v W) K)) x y z
+mid-add k x y z K =
+    mid-keeps (λ v. add binary64 v k)
+    (λ u v U W. add-keeps binary64 k u v (add-number binary64 u k (finite-number u U) K) (add-number binary64 v k (finite-number v W) K)) x y z
 
 mid-sub : (k x y z : Float) → T (finite k) → T (finite x) → T (finite z) → Mid x y z → Mid (sub binary64 x k) (sub binary64 y k) (sub binary64 z k)
-mid-sub k x y z K = mid-keeps (λ v. sub binary64 v k) (λ u v U W. sub-keeps binary64 k u v (sub-number binary64 u k (finite-number u U) K) (sub-number binary64 v k (finite-number v W) K)) x y z
+mid-sub k x y z K =
+    mid-keeps (λ v. sub binary64 v k)
+    (λ u v U W. sub-keeps binary64 k u v (sub-number binary64 u k (finite-number u U) K) (sub-number binary64 v k (finite-number v W) K)) x y z
 
 -- the program's +0
 pub zero-is : zero ≡ nought
@@ -137,7 +141,8 @@ module _ (tol a : Float) (w : Row) (x y z : Float) (m : Mid x y z) where
       let first : Mid (normalized a x w) (normalized a y w) (normalized a z w) =
       mid-line (w .curr ⊗ inv w) ((w .prev ⊗ inv w) ⊗ a) (w .rhs ⊗ inv w) x y z (p .first .0) (r .first .0) m in
       let second : Mid (raw a x w) (raw a y w) (raw a z w) = mid-line (w .curr) (w .prev ⊗ a) (w .rhs) x y z (p .second .0) (r .second .0) m in
-      let third : Mid (rawNormalized a x w) (rawNormalized a y w) (rawNormalized a z w) = mid-div (norm w) (raw a x w) (raw a y w) (raw a z w) F N (p .second .0) (r .second .0) second in
+      let third : Mid (rawNormalized a x w) (rawNormalized a y w) (rawNormalized a z w) =
+      mid-div (norm w) (raw a x w) (raw a y w) (raw a z w) F N (p .second .0) (r .second .0) second in
       record {
         lim-finite = p .lim-finite;
         first = mid-under tol (normalized a x w) (normalized a y w) (normalized a z w) first (p .first) (r .first);
@@ -147,7 +152,10 @@ module _ (tol a : Float) (w : Row) (x y z : Float) (m : Mid x y z) where
 
   norm-finite : T (numbersFinite w) → T (finite (norm w))
   unfolding numbersFinite
-  norm-finite h = and-r (finite (w .rhs)) (finite (norm w)) (and-r (finite (w .prev)) (finite (w .rhs) && finite (norm w)) (and-r (finite (w .curr)) (finite (w .prev) && (finite (w .rhs) && finite (norm w))) h))
+  norm-finite h =
+      let past-curr = and-r (finite (w .curr)) (finite (w .prev) && (finite (w .rhs) && finite (norm w))) h in
+      let past-prev = and-r (finite (w .prev)) (finite (w .rhs) && finite (norm w)) past-curr in
+      and-r (finite (w .rhs)) (finite (norm w)) past-prev
 
   -- the verdict, but for the row's own numbers
   abbrev verdict : Float → Bool → Bool
@@ -186,7 +194,11 @@ is-between : (q : Request) (x : Float) → T (between q x) → Between q x
 unfolding between
 is-between q x h =
     let b = and-r (finite x) (le (lower q) x && le x (upper q)) h in
-    record { is-finite = and-l (finite x) (le (lower q) x && le x (upper q)) h; from-lower = and-l (le (lower q) x) (le x (upper q)) b; upto-upper = and-r (le (lower q) x) (le x (upper q)) b }
+    record {
+      is-finite = and-l (finite x) (le (lower q) x && le x (upper q)) h;
+      from-lower = and-l (le (lower q) x) (le x (upper q)) b;
+      upto-upper = and-r (le (lower q) x) (le x (upper q)) b;
+    }
 
 between-mid : (q : Request) (x y z : Float) → T (le x y) → T (le y z) → Between q x → Between q z → T (between q y)
 unfolding between

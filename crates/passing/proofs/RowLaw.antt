@@ -25,7 +25,8 @@ use Rattle.limits.specs.declared.certificate.Certificate.{Certificate}
 use Rattle.limits.specs.declared.certificate.Certificate.the-variants.{Passed, Failed}
 use Rattle.passing.specs.Demand.{SameRows, Doubles}
 use Rattle.passing.proofs.Gathered.{any-same, all-same, fold-rows}
-use Rattle.passing.proofs.Brought.{asNormalized, asRaw, asLow, asHigh, brings-normalized, brings-raw, brings-low, brings-high, normalized-held, raw-held, low-held, high-held, lower-fits, upper-fits}
+use Rattle.passing.proofs.Brought.{asNormalized, asRaw, asLow, asHigh, brings-normalized, brings-raw, brings-low, brings-high}
+use Rattle.passing.proofs.Brought.{normalized-held, raw-held, low-held, high-held, lower-fits, upper-fits}
 
 -- ---- the certificate and the projected ends
 
@@ -42,16 +43,20 @@ module _ (q : Request) (l m : List Row) (to : Within l m) (back : Within m l) wh
       let zero-fits = ofBits-fits binary64 0 in
       rw (
         all-same (admits tol a x) l m to back,
-        fold-rows (λ (s : Float). s) maximum (worseNormalized a x) (asNormalized tol a x) (brings-normalized tol a x) (Fits binary64) (maximum-lattice binary64) (normalized-held tol a x) doubles.zero zero-fits l m to back,
-        fold-rows (λ (s : Float). s) maximum (worseRaw a x) (asRaw tol a x) (brings-raw tol a x) (Fits binary64) (maximum-lattice binary64) (raw-held tol a x) doubles.zero zero-fits l m to back,
+        fold-rows (λ (s : Float). s) maximum (worseNormalized a x) (asNormalized tol a x) (brings-normalized tol a x)
+            (Fits binary64) (maximum-lattice binary64) (normalized-held tol a x) doubles.zero zero-fits l m to back,
+        fold-rows (λ (s : Float). s) maximum (worseRaw a x) (asRaw tol a x) (brings-raw tol a x)
+            (Fits binary64) (maximum-lattice binary64) (raw-held tol a x) doubles.zero zero-fits l m to back,
       )
 
   projected-same : Doubles q → projected q l ≡ projected q m
   projected-same D =
       let start : Span = record { low = lower q; high = upper q } in
       ap₂ (λ (a b : Float). record { low = a; high = b })
-      (fold-rows (λ (s : Span). s .low) maximum (narrowed tol a) (asLow tol a) (brings-low tol a) (Fits binary64) (maximum-lattice binary64) (low-held tol a) start (lower-fits q D) l m to back)
-      (fold-rows (λ (s : Span). s .high) minimum (narrowed tol a) (asHigh tol a) (brings-high tol a) (Fits binary64) (minimum-lattice binary64) (high-held tol a) start (upper-fits q D) l m to back)
+      (fold-rows (λ (s : Span). s .low) maximum (narrowed tol a) (asLow tol a) (brings-low tol a)
+      (Fits binary64) (maximum-lattice binary64) (low-held tol a) start (lower-fits q D) l m to back)
+      (fold-rows (λ (s : Span). s .high) minimum (narrowed tol a) (asHigh tol a) (brings-high tol a)
+      (Fits binary64) (minimum-lattice binary64) (high-held tol a) start (upper-fits q D) l m to back)
 
   -- the search asks the rows for certificates only
   searched-same : (s : Span) → searched (certificate q l) s ≡ searched (certificate q m) s

@@ -1,5 +1,5 @@
--- Whatever recovery certifies passes, and is a double; no refusal has the number 0; and from 1 to 71 candidates are tried: the cap, up to five from the projected end down, the middle, and at most 64
--- halvings. Assumes nothing.
+-- Whatever recovery certifies passes, and is a double; no refusal has the number 0; and from 1 to 71 candidates are tried:
+-- the cap, up to five from the projected end down, the middle, and at most 64 halvings. Assumes nothing.
 use Prim.Native.Nat.{ℕ, zero, suc, _+_, _≤_}
 use mathlib.Core.Path.{_≡_, refl, subst}
 use mathlib.Core.List.{List}
@@ -34,7 +34,8 @@ unfolding replaced
 replaced-end Q e m (Passed n r) h k = h n r refl
 replaced-end Q e m Failed h k = k
 
-halved-end : (Q : Float → Type 0) (cert : Asked) (e : Ends) → ((n r : Float) → cert (middle (e .passing) (e .rejected)) ≡ Passed n r → Q (middle (e .passing) (e .rejected))) → Q (e .passing)
+halved-end : (Q : Float → Type 0) (cert : Asked) (e : Ends)
+    → ((n r : Float) → cert (middle (e .passing) (e .rejected)) ≡ Passed n r → Q (middle (e .passing) (e .rejected))) → Q (e .passing)
     → Q (halved cert e .passing)
 unfolding halved
 halved-end Q cert e h k = let m = middle (e .passing) (e .rejected) in replaced-end Q e m (cert m) h k
@@ -68,7 +69,8 @@ module _ (q : Request) (l : List Float) where
 
   double : Doubles q → Speed (λ x. T (fits binary64 x)) (recovered q l)
   double D =
-      speed-has (λ x. T (fits binary64 x)) (λ x. T (fits binary64 x)) (λ x n r w e. w) (upper-fits q D) (high-fits q D rows) (λ x w. next-fits binary64 x w) (λ x y. add-fits binary64 _ _)
+      speed-has (λ x. T (fits binary64 x)) (λ x. T (fits binary64 x)) (λ x n r w e. w)
+      (upper-fits q D) (high-fits q D rows) (λ x w. next-fits binary64 x w) (λ x y. add-fits binary64 _ _)
 
   abbrev TriedIn : Answer → Type 0
   TriedIn (Certified x n r t) = (1 ≤ t) × (t ≤ 71)

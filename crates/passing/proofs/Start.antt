@@ -2,7 +2,7 @@
 -- is at least that half and not above that end. Assumes nothing.
 use mathlib.Core.Path.{_≡_, refl, sym, ap, _∙_, subst}
 use mathlib.Core.Bool.{true, false}
-use Prim.Native.Nat.{ℕ, _+_, _*_, _^_, _≤_}
+use Prim.Native.Nat.{ℕ, _+_, _*_, _^_, _≤_, _<_}
 use native.Mathlib.Nat.{le-refl, le-trans, le-of-eq, le-of-lt, zero-add}
 use native.Mathlib.Omega.{arith}
 use lib.IntN.{negsuc}
@@ -44,7 +44,8 @@ positive-from x (inf s) X Y h = absurd Y
 positive-from x (fin true m e) X Y h = absurd (above-of-le x (fin true m e) X h)
 positive-from x (fin false m e) X Y h = above-of-le x (fin false m e) X h
 
-module _ (low high : Float) (L : T (finite low)) (F : T (finite high)) (fit : T (fits binary64 high)) (from-zero : T (le nought low)) (order : T (le low high)) (large : T (le smallest high)) where
+module _ (low high : Float) (L : T (finite low)) (F : T (finite high)) (fit : T (fits binary64 high))
+    (from-zero : T (le nought low)) (order : T (le low high)) (large : T (le smallest high)) where
   upper : Held binary64 high
   upper = record { fit = fit; above = positive-from smallest high (positive-of-value smallest (2 ^ 53) (2 ^ 1074) smallest-at (lit≤ tt)) F large }
 
@@ -92,7 +93,9 @@ module _ (low high : Float) (L : T (finite low)) (F : T (finite high)) (fit : T 
 
   -- 0 + k ≤ m
   least : T (le (add binary64 nought k) m)
-  least = add-keeps binary64 k nought (mul binary64 half low) (add-number binary64 nought k tt k-finite) (add-number binary64 (mul binary64 half low) k low-number k-finite) low-from-zero
+  least =
+      add-keeps binary64 k nought (mul binary64 half low)
+      (add-number binary64 nought k tt k-finite) (add-number binary64 (mul binary64 half low) k low-number k-finite) low-from-zero
 
   least-at : At binary64 (add binary64 nought k) h
   least-at =
@@ -103,13 +106,22 @@ module _ (low high : Float) (L : T (finite low)) (F : T (finite high)) (fit : T 
   pub middle-upto : T (le m high)
   middle-upto =
       let less : T (le (mul binary64 half low) k) = mul-keeps binary64 half low high tt (unfold le in tt) low-number (finite-number k k-finite) order in
-      let sum : T (le m (add binary64 k k)) = add-keeps binary64 k (mul binary64 half low) k (add-number binary64 (mul binary64 half low) k low-number k-finite) (add-number binary64 k k (finite-number k k-finite) k-finite) less in
+      let sum : T (le m (add binary64 k k)) =
+      add-keeps binary64 k (mul binary64 half low) k
+      (add-number binary64 (mul binary64 half low) k low-number k-finite) (add-number binary64 k k (finite-number k k-finite) k-finite) less in
       let s = units-short binary64 high upper in
       let v = add-at binary64 k k h h b (H .at) (H .at) s (units-fine binary64 high upper) (omega (arith, exact)) in
-      le-transitive m (add binary64 k k) high sum (at-le binary64 (add binary64 k k) high (rnd 53 (h + h)) b v (units-at binary64 high upper) (rnd-le 53 (lit≤ tt) (h + h) b s (omega (arith, exact))))
+      let upto : rnd 53 (h + h) ≤ b = rnd-le 53 (lit≤ tt) (h + h) b s (omega (arith, exact)) in
+      le-transitive m (add binary64 k k) high sum (at-le binary64 (add binary64 k k) high (rnd 53 (h + h)) b v (units-at binary64 high upper) upto)
 
   lower : Held binary64 m
-  lower = record { fit = add-fits binary64 (mul binary64 half low) k; above = between (add binary64 nought k) m high (positive-of-value (add binary64 nought k) h (2 ^ 1074) least-at (omega (arith, exact, units-pos binary64 high upper))) (upper .above) least middle-upto }
+  lower =
+      let some : 0 < h = omega (arith, exact, units-pos binary64 high upper) in
+      let least-positive = positive-of-value (add binary64 nought k) h (2 ^ 1074) least-at some in
+      record {
+        fit = add-fits binary64 (mul binary64 half low) k;
+        above = between (add binary64 nought k) m high least-positive (upper .above) least middle-upto;
+      }
 
   half-upto : h ≤ unitsOf binary64 m
   half-upto = le-at binary64 (add binary64 nought k) m h (unitsOf binary64 m) least-at (units-at binary64 m lower) least

@@ -19,7 +19,8 @@ use Rattle.limits.specs.declared.request.Request.{Request}
 use Rattle.limits.specs.declared.projection.Span.{Span}
 use Rattle.limits.specs.declared.certificate.Certificate.{Certificate}
 use Rattle.limits.specs.declared.certificate.Certificate.the-variants.{Passed, Failed}
-use Rattle.search.specs.Search.{Asked, neighbours, tryNeighbours, middle, stops, halved, halvings, certifiedBy, afterMiddle, withMiddle, tryMiddle, afterNeighbours, inOrder, searched}
+use Rattle.search.specs.Search.{Asked, neighbours, tryNeighbours, middle, stops, halved, halvings, certifiedBy}
+use Rattle.search.specs.Search.{afterMiddle, withMiddle, tryMiddle, afterNeighbours, inOrder, searched}
 use Rattle.search.specs.Cap.{afterCap, withCap}
 use Rattle.search.specs.declared.halving.Ends.{Ends}
 use Rattle.search.specs.declared.answer.Answer.{Answer}

@@ -51,7 +51,10 @@ module _ (ah al bh bl w N : ℕ) (A : al < N) (B : bl < N) (e : w ≡ borrowed a
   -- ---- `minus`
   pub minus-high : bh * N + bl ≤ ah * N + al → bh + w ≤ ah
   minus-high h = ⊎-elim
-      (λ (o : (al < bl) × (w ≡ 1)). let l : bh < ah = lt-of-not-le (λ (g : ah ≤ bh). let m : ah * N ≤ bh * N = mul-le-mul-right N g in absurd (omega (arith, o .0))) in omega (arith, o .1))
+      (λ (o : (al < bl) × (w ≡ 1)).
+      let no-more : ah ≤ bh → ⊥ = λ g. let m : ah * N ≤ bh * N = mul-le-mul-right N g in omega (arith, o .0) in
+      let l : bh < ah = lt-of-not-le no-more in
+      omega (arith, o .1))
       (λ (o : (bl ≤ al) × (w ≡ 0)).
       let l : bh ≤ ah = le-of-suc-le-suc (lt-of-mul-lt-mul-right N (lt-of-le-of-lt (le-add-right (bh * N) bl) (lt-of-le-of-lt h (high-in ah al (suc ah) N (lt-suc-self ah) A)))) in
       omega (arith, o .1))

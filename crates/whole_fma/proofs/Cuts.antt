@@ -1,7 +1,9 @@
 -- The laws of `cut` and of `stick` that a window needs, and what the code of `cut_word` and `cut_wide` computes. Assumes nothing.
 use mathlib.Core.Path.{_≡_, sym, ap, _∙_}
 use Prim.Native.Nat.{ℕ, zero, suc, _+_, _-_, _*_, _/_, _%_, _^_, _≤_, _<_, min}
-use native.Mathlib.Nat.{le-trans, le-of-eq, lt-of-le-of-lt, mul-assoc, mul-pos, mul-le-mul-right, mul-le-mul-left, mul-lt-mul-of-pos-right, le-of-mul-le-mul-right, lt-of-mul-lt-mul-right, mod-lt, mod-eq-of-lt, div-add-mod', div-mul-le-self, div-lt-iff-lt-mul, mul-add-mod-self-right}
+use native.Mathlib.Nat.{le-trans, le-of-eq, lt-of-le-of-lt, le-of-mul-le-mul-right, lt-of-mul-lt-mul-right}
+use native.Mathlib.Nat.{mul-assoc, mul-pos, mul-le-mul-right, mul-le-mul-left, mul-lt-mul-of-pos-right}
+use native.Mathlib.Nat.{mod-lt, mod-eq-of-lt, div-add-mod', div-mul-le-self, div-lt-iff-lt-mul, mul-add-mod-self-right}
 use native.Mathlib.Omega.{arith}
 use lib.Arith.{digits-mod}
 use lib.Pow.{pow-add, pow-pos, pow-mono}
@@ -161,7 +163,8 @@ module _ (hi lo w : ℕ) (L : lo < 2 ^ 64) where
   pub wide-far : (sh : ℕ) → 64 ≤ sh → w ≡ cut (hi * 2 ^ 64 + lo) 64 → cut w (sh - 64) ≡ cut (hi * 2 ^ 64 + lo) sh
   wide-far sh h e =
       let n = hi * 2 ^ 64 + lo in
-      let p : 2 * 2 ^ 64 * 2 ^ (sh - 64) ≡ 2 * 2 ^ sh = mul-assoc 2 (2 ^ 64) (2 ^ (sh - 64)) ∙ ap (λ (z : ℕ). 2 * z) (sym (pow-add 2 64 (sh - 64)) ∙ ap (λ (z : ℕ). 2 ^ z) (omega arith)) in
+      let q : 2 ^ 64 * 2 ^ (sh - 64) ≡ 2 ^ sh = sym (pow-add 2 64 (sh - 64)) ∙ ap (λ (z : ℕ). 2 ^ z) (omega arith) in
+      let p : 2 * 2 ^ 64 * 2 ^ (sh - 64) ≡ 2 * 2 ^ sh = mul-assoc 2 (2 ^ 64) (2 ^ (sh - 64)) ∙ ap (λ (z : ℕ). 2 * z) q in
       ap (λ (z : ℕ). cut z (sh - 64)) e
       ∙ sym (stick-stick n (2 * 2 ^ 64) (2 ^ (sh - 64)) (mul-pos (pow-pos 1) (pow-pos 64)) (pow-pos (sh - 64)))
       ∙ ap (λ (z : ℕ). stick n z) p

@@ -6,7 +6,7 @@ use native.Mathlib.Omega.{arith}
 use mathlib.Core.Bool.{false}
 use lib.Dec.{lit<}
 use lib.Pow.{pow-add, pow-pos}
-use lib.Ieee.{binary64, unlike, sum, ofBits}
+use lib.Ieee.{Float, binary64, unlike, sum, ofBits}
 use Rattle.operands.proofs.Operands.{digits, in-units}
 use Rattle.limbs.specs.declared.wide.Wide.{Wide}
 use Rattle.number.proofs.Patterns.{sizeAt}
@@ -44,7 +44,8 @@ module _ (x y z : ℕ) (X : x < 2 ^ 64) (Y : y < 2 ^ 64) (Z : z < 2 ^ 64)
   abbrev j : ℕ
   j = exponent (magnitude z) + 1200
 
-  pub in-windows : sum binary64 (unlike (signBit x) (signBit y)) (m * 1024 * (n * 1024) * 2 ^ i) (signBit z) (l * 512 * 2 ^ 64 * 2 ^ j) (2 ^ deep) ≡ fmaOf binary64 (ofBits binary64 x) (ofBits binary64 y) (ofBits binary64 z)
+  pub in-windows : sum binary64 (unlike (signBit x) (signBit y)) (m * 1024 * (n * 1024) * 2 ^ i) (signBit z) (l * 512 * 2 ^ 64 * 2 ^ j) (2 ^ deep)
+      ≡ fmaOf binary64 (ofBits binary64 x) (ofBits binary64 y) (ofBits binary64 z)
   in-windows =
       let A = sizeAt binary64 (magnitude x) in
       let B = sizeAt binary64 (magnitude y) in
@@ -55,12 +56,17 @@ module _ (x y z : ℕ) (X : x < 2 ^ 64) (Y : y < 2 ^ 64) (Z : z < 2 ^ 64)
       let d = exponent (magnitude z) in
       let p : 2 ^ i ≡ 2 ^ a * 2 ^ b * 2 ^ 126 = pow-add 2 (a + b) 126 ∙ ap (λ (w : ℕ). w * 2 ^ 126) (pow-add 2 a b) in
       let q : 2 ^ j ≡ 2 ^ d * 2 ^ 1200 = pow-add 2 d 1200 in
+      let far = ap (λ (w : ℕ). 2 ^ w) deep-is in
       sym
-      (fma-value binary64 (ofBits binary64 x) (ofBits binary64 y) (ofBits binary64 z) (signBit x) (signBit y) (signBit z) A B C c (pow-pos 1074) (in-units x X (S .0)) (in-units y Y (S .1)) (in-units z Z (S .2))
-      ∙ sum-same binary64 (unlike (signBit x) (signBit y)) (signBit z) (A * B) (C * c) (c * c) (m * 1024 * (n * 1024) * 2 ^ i) (l * 512 * 2 ^ 64 * 2 ^ j) (2 ^ deep)
+      (fma-value binary64 (ofBits binary64 x) (ofBits binary64 y) (ofBits binary64 z) (signBit x) (signBit y) (signBit z) A B C c
+      (pow-pos 1074) (in-units x X (S .0)) (in-units y Y (S .1)) (in-units z Z (S .2))
+      ∙ sum-same binary64 (unlike (signBit x) (signBit y)) (signBit z) (A * B) (C * c) (c * c)
+      (m * 1024 * (n * 1024) * 2 ^ i) (l * 512 * 2 ^ 64 * 2 ^ j) (2 ^ deep)
       (mul-pos (pow-pos 1074) (pow-pos 1074)) (pow-pos deep)
-      (to-product A B m n (2 ^ a) (2 ^ b) (2 ^ 53) (2 ^ 126) c (2 ^ deep) (units-unpacked (magnitude x)) (units-unpacked (magnitude y)) (ap (λ (w : ℕ). 2 ^ w) deep-is) ∙ ap (λ (w : ℕ). m * 1024 * (n * 1024) * w * (c * c)) (sym p))
-      (to-addend C l (2 ^ d) (2 ^ 53) (2 ^ 1200) (2 ^ 64) c (2 ^ deep) (units-unpacked (magnitude z)) (ap (λ (w : ℕ). 2 ^ w) deep-is) ∙ ap (λ (w : ℕ). l * 512 * 2 ^ 64 * w * (c * c)) (sym q)))
+      (to-product A B m n (2 ^ a) (2 ^ b) (2 ^ 53) (2 ^ 126) c (2 ^ deep) (units-unpacked (magnitude x)) (units-unpacked (magnitude y)) far
+      ∙ ap (λ (w : ℕ). m * 1024 * (n * 1024) * w * (c * c)) (sym p))
+      (to-addend C l (2 ^ d) (2 ^ 53) (2 ^ 1200) (2 ^ 64) c (2 ^ deep) (units-unpacked (magnitude z)) far
+      ∙ ap (λ (w : ℕ). l * 512 * 2 ^ 64 * w * (c * c)) (sym q)))
 
   windows : Windows (m * 1024 * (n * 1024)) (l * 512)
   windows =
@@ -104,10 +110,12 @@ module _ (x y z : ℕ) (X : x < 2 ^ 64) (Y : y < 2 ^ 64) (Z : z < 2 ^ 64)
     pub code-windows : Windows (whole xy) (o .z .m * 512)
     code-windows = subst (λ (a : ℕ). Windows (whole xy) (a * 512)) (sym (parts .2 .0)) (subst (λ (a : ℕ). Windows a (l * 512)) product-is windows)
 
-    pub code-sum : sum binary64 (unlike (signBit x) (signBit y)) (whole xy * 2 ^ (o .x .k + o .y .k + 126)) (signBit z) (o .z .m * 512 * 2 ^ 64 * 2 ^ (o .z .k + 1200)) (2 ^ deep)
+    pub code-sum : sum binary64 (unlike (signBit x) (signBit y)) (whole xy * 2 ^ (o .x .k + o .y .k + 126))
+        (signBit z) (o .z .m * 512 * 2 ^ 64 * 2 ^ (o .z .k + 1200)) (2 ^ deep)
         ≡ fmaOf binary64 (ofBits binary64 x) (ofBits binary64 y) (ofBits binary64 z)
     code-sum =
-        ap₂ (λ (a b : ℕ). sum binary64 (unlike (signBit x) (signBit y)) (whole xy * 2 ^ (a + b + 126)) (signBit z) (o .z .m * 512 * 2 ^ 64 * 2 ^ (o .z .k + 1200)) (2 ^ deep)) (parts .0 .1) (parts .1 .1)
-        ∙ ap₂ (λ (a b : ℕ). sum binary64 (unlike (signBit x) (signBit y)) (whole xy * 2 ^ i) (signBit z) (a * 512 * 2 ^ 64 * 2 ^ (b + 1200)) (2 ^ deep)) (parts .2 .0) (parts .2 .1)
-        ∙ ap (λ (a : ℕ). sum binary64 (unlike (signBit x) (signBit y)) (a * 2 ^ i) (signBit z) (l * 512 * 2 ^ 64 * 2 ^ j) (2 ^ deep)) (sym product-is)
+        let added : ℕ → ℕ → Float = λ product addend. sum binary64 (unlike (signBit x) (signBit y)) product (signBit z) addend (2 ^ deep) in
+        ap₂ (λ (a b : ℕ). added (whole xy * 2 ^ (a + b + 126)) (o .z .m * 512 * 2 ^ 64 * 2 ^ (o .z .k + 1200))) (parts .0 .1) (parts .1 .1)
+        ∙ ap₂ (λ (a b : ℕ). added (whole xy * 2 ^ i) (a * 512 * 2 ^ 64 * 2 ^ (b + 1200))) (parts .2 .0) (parts .2 .1)
+        ∙ ap (λ (a : ℕ). added (a * 2 ^ i) (l * 512 * 2 ^ 64 * 2 ^ j)) (sym product-is)
         ∙ in-windows

@@ -1,4 +1,5 @@
--- The fused multiply-add where an operand is a NaN, an infinity or a zero: there a rounded product and a rounded sum do no harm, or one of the two is not needed. Over any format. Assumes nothing.
+-- The fused multiply-add where an operand is a NaN, an infinity or a zero: there a rounded product and a rounded sum do no harm,
+-- or one of the two is not needed. Over any format. Assumes nothing.
 use mathlib.Core.Path.{_≡_, refl, sym, ap, _∙_}
 use mathlib.Core.Logic.{_⊎_, inl, inr}
 use Prim.Native.Nat.{ℕ, zero, suc, _+_, _-_, _*_, _<_}
@@ -155,7 +156,11 @@ zero-added f s u p c l d P C D e = go (Bool·beq s u) refl
       where
         plus : (a b : ℕ) → b ≡ 0 → a ≡ a + b
         plus a b e = omega arith
-    go false h = back ∙ ap (λ (k : ℕ). round f s k (c * d)) (less (p * d) b none) ∙ sym (sum-at f s (p * d) u b (c * d) s (p * d - b) (exact-more s u (p * d) b h (below (p * d) b none (mul-pos P D))))
+    go false h =
+        let smaller : b < p * d = below (p * d) b none (mul-pos P D) in
+        back
+        ∙ ap (λ (k : ℕ). round f s k (c * d)) (less (p * d) b none)
+        ∙ sym (sum-at f s (p * d) u b (c * d) s (p * d - b) (exact-more s u (p * d) b h smaller))
       where
         less : (a b : ℕ) → b ≡ 0 → a ≡ a - b
         less a b e = omega arith
@@ -169,7 +174,11 @@ digit (suc m) e = zero-lt-suc m
 
 -- what a test for zero finds
 zero-test : (u : Bool) (l : ℕ) (g : ℤ) → eq (fin u l g) plusZero ≡ eqb l 0
-zero-test u l g = unfold eq in ap (λ (n : ℕ). eqb (l * up g * 1) n && (Bool·beq u false || eqb (l * up g * 1) 0)) (nought (down g)) ∙ absorbed (Bool·beq u false) (eqb (l * up g * 1) 0) ∙ same l
+zero-test u l g =
+    unfold eq in
+    ap (λ (n : ℕ). eqb (l * up g * 1) n && (Bool·beq u false || eqb (l * up g * 1) 0)) (nought (down g))
+    ∙ absorbed (Bool·beq u false) (eqb (l * up g * 1) 0)
+    ∙ same l
   where
     nought : (d : ℕ) → 0 * 1 * d ≡ 0
     nought d = omega arith

@@ -1,9 +1,10 @@
--- The exact sum of ±a and ±b, and `sum`, which rounds it: the cases, scaled and swapped operands, `fmaOf` of three finite values, and one operand cut to the other's window. Over any format.
--- Assumes nothing.
+-- The exact sum of ±a and ±b, and `sum`, which rounds it: the cases, scaled and swapped operands, `fmaOf` of three finite values,
+-- and one operand cut to the other's window. Over any format. Assumes nothing.
 use mathlib.Core.Path.{_≡_, refl, sym, ap, ap₂, _∙_}
 use mathlib.Core.Logic.{_⊎_, inl, inr}
 use Prim.Native.Nat.{ℕ, suc, _+_, _-_, _*_, _/_, _%_, _^_, _≤_, _<_, min, compare, Ordering, Ordering·lt, Ordering·eq, Ordering·gt}
-use native.Mathlib.Nat.{le-trans, le-of-eq, le-of-lt, lt-of-lt-of-le, mul-comm, mul-pos, mul-lt-mul-of-pos-right, add-mul, add-comm, mul-sub, div-add-mod', le-div-iff-mul-le, pow-succ'}
+use native.Mathlib.Nat.{le-trans, le-of-eq, le-of-lt, lt-of-lt-of-le, le-div-iff-mul-le}
+use native.Mathlib.Nat.{mul-comm, mul-pos, mul-lt-mul-of-pos-right, add-mul, add-comm, mul-sub, div-add-mod', pow-succ'}
 use native.Mathlib.Omega.{arith}
 use mathlib.Core.Bool.{Bool, true, false, _&&_, Bool·beq, cond, and-true, and-false}
 use borrow.Author.Tests.{lt-ltb, le-ltb}
@@ -43,7 +44,9 @@ pub sum-is : (f : Format) (s : Bool) (a : ℕ) (t : Bool) (b c : ℕ) → sum f 
 unfolding sum
 sum-is f s a t b c = go (Bool·beq s t) (ltb a b)
   where
-    go : (p q : Bool) → cond p (round f s (a + b) c) (cond q (round f t (b - a) c) (round f (s && ltb b a) (a - b) c)) ≡ round f (cond p s (cond q t (s && ltb b a))) (cond p (a + b) (cond q (b - a) (a - b))) c
+    go : (p q : Bool)
+        → cond p (round f s (a + b) c) (cond q (round f t (b - a) c) (round f (s && ltb b a) (a - b) c))
+        ≡ round f (cond p s (cond q t (s && ltb b a))) (cond p (a + b) (cond q (b - a) (a - b))) c
     go true q = refl
     go false true = refl
     go false false = refl
@@ -140,7 +143,8 @@ fma-value f (fin a m e) (fin b n d) (fin w r g) s t u A B C c P h k l =
 -- ---- a number cut, as `round` sees it: more digits are left than the format keeps
 pub cut-alike : (f : Format) (s : Bool) (n k sh i D : ℕ) → i ≡ sh + k → 2 ^ prec f * (2 * 2 ^ sh) ≤ n → round f s (n * 2 ^ k) (2 ^ D) ≡ round f s (cut n sh * 2 ^ i) (2 ^ D)
 cut-alike f s n k sh i D e h =
-    jam f s n (suc sh) k D (omega arith) (size-gt (n / 2 ^ suc sh) (prec f) (le-div-iff-mul-le (pow-pos (suc sh)) .1 (le-trans (le-of-eq (ap (λ (z : ℕ). 2 ^ prec f * z) (pow-succ' 2 sh))) h)))
+    let more : 2 ^ prec f * 2 ^ suc sh ≤ n = le-trans (le-of-eq (ap (λ (z : ℕ). 2 ^ prec f * z) (pow-succ' 2 sh))) h in
+    jam f s n (suc sh) k D (omega arith) (size-gt (n / 2 ^ suc sh) (prec f) (le-div-iff-mul-le (pow-pos (suc sh)) .1 more))
     ∙ ap₂ (λ (x y : ℕ). round f s (stick n x * 2 ^ y) (2 ^ D)) (pow-succ' 2 sh) (omega arith)
 
 -- ---- ±v * 2 ^ i ± y * 2 ^ k, with y cut to multiples of 2 ^ i: nothing is lost, or the first is far larger

@@ -2,7 +2,8 @@
 use mathlib.Core.Path.{_≡_, refl, sym, ap, ap₂, _∙_, subst}
 use mathlib.Core.Logic.{_⊎_, inl, inr, ⊎-elim}
 use Prim.Native.Nat.{ℕ, suc, _+_, _-_, _*_, _/_, _%_, _^_, _≤_, _<_}
-use native.Mathlib.Nat.{le-trans, le-of-eq, lt-of-lt-of-le, lt-of-le-of-lt, mul-assoc, mul-le-mul-left, mul-le-mul-right, mul-lt-mul-of-pos-right, mul-mod-left, le-add-right, add-comm, eq-zero-or-pos, add-zero, pow-succ', div-add-mod', mod-eq-of-lt}
+use native.Mathlib.Nat.{le-trans, le-of-eq, lt-of-lt-of-le, lt-of-le-of-lt, le-add-right, eq-zero-or-pos, add-comm, add-zero}
+use native.Mathlib.Nat.{mul-assoc, mul-le-mul-left, mul-le-mul-right, mul-lt-mul-of-pos-right, mul-mod-left, pow-succ', div-add-mod', mod-eq-of-lt}
 use native.Mathlib.Omega.{arith}
 use mathlib.Core.Bool.{Bool, true, false, not, Bool·beq, cond}
 use borrow.Author.Tests.{lt-ltb, le-ltb, ltb-true, ltb-false}
@@ -32,7 +33,8 @@ free : (n q e sh : ℕ) → n ≡ q * 2 ^ e → sh < e → n % (2 * 2 ^ sh) ≡ 
 free n q e sh h l =
     let d = e - suc sh in
     let x : e ≡ d + suc sh = omega arith in
-    let p : q * 2 ^ e ≡ q * 2 ^ d * (2 * 2 ^ sh) = ap (λ (z : ℕ). q * z) (ap (λ (z : ℕ). 2 ^ z) x ∙ pow-add 2 d (suc sh) ∙ ap (λ (z : ℕ). 2 ^ d * z) (pow-succ' 2 sh)) ∙ sym (mul-assoc q (2 ^ d) (2 * 2 ^ sh)) in
+    let y : 2 ^ e ≡ 2 ^ d * (2 * 2 ^ sh) = ap (λ (z : ℕ). 2 ^ z) x ∙ pow-add 2 d (suc sh) ∙ ap (λ (z : ℕ). 2 ^ d * z) (pow-succ' 2 sh) in
+    let p : q * 2 ^ e ≡ q * 2 ^ d * (2 * 2 ^ sh) = ap (λ (z : ℕ). q * z) y ∙ sym (mul-assoc q (2 ^ d) (2 * 2 ^ sh)) in
     ap (λ (z : ℕ). z % (2 * 2 ^ sh)) (h ∙ p) ∙ mul-mod-left (q * 2 ^ d) (2 * 2 ^ sh)
 
 -- and where it reaches further the other number is far larger. u is 2 ^ 124, which `omega` does not count to.
@@ -191,12 +193,15 @@ module _ (hi lo : ℕ) (H : hi < 2 ^ 64) (L : lo < 2 ^ 64) where
       lower : (p N : ℕ) → 2 ^ 55 ≤ N → p ≤ 2 * hi → 2 ^ 53 * (2 * p) ≤ hi * N + lo
       lower p N h g = let a : hi * 2 ^ 55 ≤ hi * N = mul-le-mul-left hi h in omega arith
 
-      go : (b : Bool) → (b ≡ false → 2 ^ 54 ≤ hi) → round binary64 s (m * 2 ^ k) (2 ^ deep) ≡ round binary64 s (cut m (cond b (64 - leadingZeros 64 hi) 64) * 2 ^ (k + cond b (64 - leadingZeros 64 hi) 64)) (2 ^ deep)
+      go : (b : Bool) → (b ≡ false → 2 ^ 54 ≤ hi) → round binary64 s (m * 2 ^ k) (2 ^ deep)
+          ≡ round binary64 s (cut m (cond b (64 - leadingZeros 64 hi) 64) * 2 ^ (k + cond b (64 - leadingZeros 64 hi) 64)) (2 ^ deep)
       go true h = ⊎-elim
           (λ (e : hi ≡ 0).
           let z : 64 - leadingZeros 64 hi ≡ 0 = ap (λ (x : ℕ). 64 - leadingZeros 64 x) e ∙ ap (λ (x : ℕ). 64 - x) (leading-of-zero 64) in
           ap₂ (λ (x y : ℕ). round binary64 s (x * 2 ^ y) (2 ^ deep)) (cut-none m ∙ ap (cut m) (sym z)) (omega arith))
-          (λ (g : 0 < hi). cut-alike binary64 s m k (64 - leadingZeros 64 hi) (k + (64 - leadingZeros 64 hi)) deep (add-comm k (64 - leadingZeros 64 hi)) (lower (2 ^ (64 - leadingZeros 64 hi)) (2 ^ 64) (lit≤ tt) (top-digit hi H .1 g)))
+          (λ (g : 0 < hi).
+          let d = 64 - leadingZeros 64 hi in
+          cut-alike binary64 s m k d (k + d) deep (add-comm k d) (lower (2 ^ d) (2 ^ 64) (lit≤ tt) (top-digit hi H .1 g)))
           (eq-zero-or-pos hi)
       go false h = cut-alike binary64 s m k 64 (k + 64) deep (add-comm k 64) (le-trans (mul-le-mul-right (2 ^ 64) (h refl)) (le-add-right (hi * 2 ^ 64) lo))
 

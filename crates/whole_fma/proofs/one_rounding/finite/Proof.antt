@@ -52,11 +52,14 @@ module _ (c : tie.After-product) where
   xy = c .product .result
 
   in-windows : Windows (whole xy) (o .z .m * 512)
-  in-windows = code-windows (s .args .a) (s .args .b) (s .args .c) (s .fits .a .fits) (s .fits .b .fits) (s .fits .c .fits) (s .pre) o xy (c .before .before .before .split .ensures) (c .product .ensures)
+  in-windows = code-windows (s .args .a) (s .args .b) (s .args .c) (s .fits .a .fits) (s .fits .b .fits) (s .fits .c .fits) (s .pre)
+      o xy (c .before .before .before .split .ensures) (c .product .ensures)
 
-  exact : sum binary64 (unlike (signBit (s .args .a)) (signBit (s .args .b))) (whole xy * 2 ^ (o .x .k + o .y .k + 126)) (signBit (s .args .c)) (o .z .m * 512 * 2 ^ 64 * 2 ^ (o .z .k + 1200)) (2 ^ deep)
+  exact : sum binary64 (unlike (signBit (s .args .a)) (signBit (s .args .b))) (whole xy * 2 ^ (o .x .k + o .y .k + 126))
+      (signBit (s .args .c)) (o .z .m * 512 * 2 ^ 64 * 2 ^ (o .z .k + 1200)) (2 ^ deep)
       ≡ fmaOf binary64 (ofBits binary64 (s .args .a)) (ofBits binary64 (s .args .b)) (ofBits binary64 (s .args .c))
-  exact = code-sum (s .args .a) (s .args .b) (s .args .c) (s .fits .a .fits) (s .fits .b .fits) (s .fits .c .fits) (s .pre) o xy (c .before .before .before .split .ensures) (c .product .ensures)
+  exact = code-sum (s .args .a) (s .args .b) (s .args .c) (s .fits .a .fits) (s .fits .b .fits) (s .fits .c .fits) (s .pre)
+      o xy (c .before .before .before .split .ensures) (c .product .ensures)
 
 -- what owning two limbs in a `Total` tells
 limbs : (c : tie.After-joined) → (c .joined .result .n .hi < 2 ^ 64) × (c .joined .result .n .lo < 2 ^ 64)
@@ -96,7 +99,8 @@ joined-requires : tie.Need-joined-requires
 joined-requires c κs =
     let d = multiplied c in
     let p = c .aligned in
-    below-sign (unlike (signBit (s d .args .a)) (signBit (s d .args .b))) (signBit (s d .args .c)) (whole (xy d)) (o d .x .k + o d .y .k + 126) (o d .z .m * 512) (o d .z .k + 1200) (in-windows d)
+    below-sign (unlike (signBit (s d .args .a)) (signBit (s d .args .b))) (signBit (s d .args .c))
+    (whole (xy d)) (o d .x .k + o d .y .k + 126) (o d .z .m * 512) (o d .z .k + 1200) (in-windows d)
     (p .result .a) (p .result .b) (p .result .k) (p .ensures)
 
 narrow-requires : tie.Need-narrow-requires
@@ -116,7 +120,8 @@ returns c =
     let t = c .before .before .joined in
     let r = c .before .narrow in
     c .rounded .ensures
-    ∙ steps-alike (unlike (signBit (s d .args .a)) (signBit (s d .args .b))) (signBit (s d .args .c)) (whole (xy d)) (o d .x .k + o d .y .k + 126) (o d .z .m * 512) (o d .z .k + 1200) (in-windows d)
+    ∙ steps-alike (unlike (signBit (s d .args .a)) (signBit (s d .args .b))) (signBit (s d .args .c))
+    (whole (xy d)) (o d .x .k + o d .y .k + 126) (o d .z .m * 512) (o d .z .k + 1200) (in-windows d)
     (p .result .a) (p .result .b) (p .result .k) (p .ensures) (t .result .neg) (t .result .n) (r .result .m) (r .result .k) (limbs (c .before .before)) (t .ensures) (r .ensures)
     ∙ exact d
 

@@ -125,7 +125,8 @@ returns-6 : tie.Need-returns-6
 returns-6 c =
     let s = c .before .before .before .before .before in
     c .finite .ensures
-    ∙ ap₂ (λ (u v : Float). fmaOf binary64 u v (ofBits binary64 (toBits binary64 (s .args .z)))) (ofBits-toBits binary64 (s .args .x) (held-x s)) (ofBits-toBits binary64 (s .args .y) (held-y s))
+    ∙ ap₂ (λ (u v : Float). fmaOf binary64 u v (ofBits binary64 (toBits binary64 (s .args .z))))
+    (ofBits-toBits binary64 (s .args .x) (held-x s)) (ofBits-toBits binary64 (s .args .y) (held-y s))
     ∙ ap (λ (w : Float). fmaOf binary64 (s .args .x) (s .args .y) w) (ofBits-toBits binary64 (s .args .z) (held-z s))
 
 pub in-whole-numbers-spec : {M : Type 1} → statement M
