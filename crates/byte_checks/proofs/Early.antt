@@ -29,7 +29,8 @@ other-count : (s a t u : List Float) → (length t ≡ length s → ⊥) → (le
 unfolding timedNo
 other-count s a t u h k = rw (ne-eqb (length t) (length s) h, ne-eqb (length u) (length s) k)
 
-pub no-times : (s a t : List ℕ) → 2 ≤ length s / 8 → (length t / 8 ≡ length s / 8 → ⊥) → timedNo (doublesOf s) (doublesOf a) (doublesOf []) ≡ timedNo (doublesOf s) (doublesOf a) (doublesOf t)
+pub no-times : (s a t : List ℕ) → 2 ≤ length s / 8 → (length t / 8 ≡ length s / 8 → ⊥)
+    → timedNo (doublesOf s) (doublesOf a) (doublesOf []) ≡ timedNo (doublesOf s) (doublesOf a) (doublesOf t)
 no-times s a t h k =
     other-count (doublesOf s) (doublesOf a) (doublesOf []) (doublesOf t)
     (λ z. omega (arith, length-doubles [], length-doubles s))

@@ -41,7 +41,8 @@ fn decoded(
     aside: &mut [f64],
     out: &mut [u8],
 ) -> Sampled
-    requires { ⌜ (length (now s) / 8 ≤ mostStations) × (length (now a) / 8 ≤ mostStations) × (length (now t) / 8 ≤ mostStations) × (min (length (now out) / 8) (mostSamples + 1) ≤ length (now aside)) ⌝ }
+    requires { ⌜ (length (now s) / 8 ≤ mostStations) × (length (now a) / 8 ≤ mostStations) × (length (now t) / 8 ≤ mostStations)
+        × (min (length (now out) / 8) (mostSamples + 1) ≤ length (now aside)) ⌝ }
     ensures { λ r. ⌜ WholeGridded (now (s .entry)) (now (a .entry)) (now (t .entry)) t0 dt end (now (out .entry)) r (now (out .exit)) ⌝ }
 {
     let mut stations = [0.0; most::STATIONS];

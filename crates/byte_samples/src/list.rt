@@ -32,7 +32,8 @@ fn decoded(
     aside: &mut [f64],
     out: &mut [u8],
 ) -> Sampled
-    requires { ⌜ (length (now s) / 8 ≤ mostStations) × (length (now a) / 8 ≤ mostStations) × (length (now t) / 8 ≤ mostStations) × (length (now x) / 8 ≤ length (now asked)) × (length (now x) / 8 ≤ length (now aside)) ⌝ }
+    requires { ⌜ (length (now s) / 8 ≤ mostStations) × (length (now a) / 8 ≤ mostStations) × (length (now t) / 8 ≤ mostStations)
+        × (length (now x) / 8 ≤ length (now asked)) × (length (now x) / 8 ≤ length (now aside)) ⌝ }
     ensures { λ r. ⌜ WholeListed (now (s .entry)) (now (a .entry)) (now (t .entry)) (now (x .entry)) (now (out .entry)) r (now (out .exit)) ⌝ }
 {
     let mut stations = [0.0; most::STATIONS];

@@ -23,7 +23,8 @@ fn number_of(r: Sloped) -> u64
 // Worked out aside, then written as bytes.
 fn slopes(s: &[f64], a: &[f64], aside: &mut [f64], out: &mut [u8]) -> u64
     requires { ⌜ length (now s) ≤ length (now aside) ⌝ }
-    ensures { λ r. ⌜ SlopesReplied (slopesNo (now (s .entry)) (now (a .entry)) (length (now (out .entry)) / 8)) (now (s .entry)) (now (a .entry)) (now (out .entry)) r (now (out .exit)) ⌝ }
+    ensures { λ r. ⌜ SlopesReplied (slopesNo (now (s .entry)) (now (a .entry)) (length (now (out .entry)) / 8))
+        (now (s .entry)) (now (a .entry)) (now (out .entry)) r (now (out .exit)) ⌝ }
 {
     let room = doubles::room(out.len(), aside.len());
     let number = number_of(a_to_b_topp2(s, a, &mut aside[..room]));

@@ -23,7 +23,8 @@ fn number_of(r: Timed) -> u64
 // Worked out aside, then written as bytes.
 fn times(s: &[f64], a: &[f64], t0: f64, aside: &mut [f64], out: &mut [u8]) -> u64
     requires { ⌜ length (now s) ≤ length (now aside) ⌝ }
-    ensures { λ r. ⌜ TimesReplied (timesNo (now (s .entry)) (now (a .entry)) t0 (length (now (out .entry)) / 8)) (now (s .entry)) (now (a .entry)) t0 (now (out .entry)) r (now (out .exit)) ⌝ }
+    ensures { λ r. ⌜ TimesReplied (timesNo (now (s .entry)) (now (a .entry)) t0 (length (now (out .entry)) / 8))
+        (now (s .entry)) (now (a .entry)) t0 (now (out .entry)) r (now (out .exit)) ⌝ }
 {
     let room = doubles::room(out.len(), aside.len());
     let number = number_of(s_to_t_topp2(s, a, t0, &mut aside[..room]));

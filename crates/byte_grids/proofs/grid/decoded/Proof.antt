@@ -36,7 +36,8 @@ array-share-prefix-speeds c = search needs
 slice-aggregate-sampled-2 : tie.Need-slice-aggregate-sampled-2
 slice-aggregate-sampled-2 c =
     let d = c .before .before .before .before .before .before in
-    let e = d .before .before .before .before .before .before .before .before .before .before in
+    let stations = d .before .before .before in
+    let e = stations .before .before .before .before .before .before .before in
     front-count (e .args .a .now) _ _ (d .decode2 .ensures) (e .pre .1)
 
 array-share-prefix-times : tie.Need-array-share-prefix-times
@@ -45,7 +46,9 @@ array-share-prefix-times c = search needs
 slice-aggregate-sampled-3 : tie.Need-slice-aggregate-sampled-3
 slice-aggregate-sampled-3 c =
     let d = c .before .before .before .before in
-    let e = d .before .before .before .before .before .before .before .before .before .before .before .before .before in
+    let speeds = d .before .before .before in
+    let stations = speeds .before .before .before in
+    let e = stations .before .before .before .before .before .before .before in
     front-count (e .args .t .now) _ _ (d .decode3 .ensures) (e .pre .2)
 
 sampled-requires : tie.Need-sampled-requires
@@ -59,13 +62,16 @@ same-length-2 c = search needs
 
 returns : tie.Need-returns
 returns c =
-    let d = c .before .before .before .before .before .before .before .before .before .before .before in
-    let e = d .before .before .before .before .before .before .before .before .before .before .before .before .before in
+    let called = c .before .before .before .before in
+    let times = called .before .before .before .before .before .before .before in
+    let speeds = times .before .before .before in
+    let stations = speeds .before .before .before in
+    let e = stations .before .before .before .before .before .before .before in
     rw (
-      front-is (e .args .s .now) _ _ (d .before .before .before .before .before .before .decode .ensures) (e .pre .0),
-      front-is (e .args .a .now) _ _ (d .before .before .before .decode2 .ensures) (e .pre .1),
-      front-is (e .args .t .now) _ _ (d .decode3 .ensures) (e .pre .2),
-    ) at (c .before .before .before .before .sampled .ensures)
+      front-is (e .args .s .now) _ _ (stations .decode .ensures) (e .pre .0),
+      front-is (e .args .a .now) _ _ (speeds .decode2 .ensures) (e .pre .1),
+      front-is (e .args .t .now) _ _ (times .decode3 .ensures) (e .pre .2),
+    ) at (called .sampled .ensures)
 
 pub decoded-spec : {M : Type 1} → statement M
 decoded-spec =

@@ -24,11 +24,13 @@ one-at-most true = omega arith
 one-at-most false = omega arith
 
 -- 28 comes before the room is asked for: more samples than the limit are refused whatever the room
-few-first : (n e early room most : ℕ) → e ≤ 1 → min room (mostSamples + 1) ≤ most → (early ≡ 0 → n ≤ mostSamples) → early or unless (leb (n + e) (min room most)) 29 ≡ early or unless (leb (n + e) room) 29
+few-first : (n e early room most : ℕ) → e ≤ 1 → min room (mostSamples + 1) ≤ most → (early ≡ 0 → n ≤ mostSamples)
+    → early or unless (leb (n + e) (min room most)) 29 ≡ early or unless (leb (n + e) room) 29
 few-first n e zero room most h k few = let l = few refl in rw (room-within (n + e) room most (mostSamples + 1) (omega arith) k)
 few-first n e (suc early) room most h k few = refl
 
-same-room : (s a t : List Float) (t0 dt : Float) (final : Bool) (room most : ℕ) → min room (mostSamples + 1) ≤ most → gridNo s a t t0 dt final (min room most) ≡ gridNo s a t t0 dt final room
+same-room : (s a t : List Float) (t0 dt : Float) (final : Bool) (room most : ℕ) → min room (mostSamples + 1) ≤ most
+    → gridNo s a t t0 dt final (min room most) ≡ gridNo s a t t0 dt final room
 unfolding gridNo
 same-room s a t t0 dt final room most h = rw (few-first (gridSize t t0 dt) (cond final 1 0) (evenNo t t0 dt) room most (one-at-most final) h (sized t t0 dt))
 
@@ -43,7 +45,8 @@ needed s a t t0 dt final =
     let n = gridSize t t0 dt in
     omega (arith, added-at-most final (finalAdded s t t0 n (gridStation s a t t0 dt (n - 1))))
 
-here : (s a t : List Float) (t0 dt : Float) (final : Bool) (aside front : List Float) (out : List ℕ) (r : ℕ) (v : Sampled) → r ≡ min (length out / 8) (length aside) → min (length out / 8) (mostSamples + 1) ≤ length aside
+here : (s a t : List Float) (t0 dt : Float) (final : Bool) (aside front : List Float) (out : List ℕ) (r : ℕ) (v : Sampled)
+    → r ≡ min (length out / 8) (length aside) → min (length out / 8) (mostSamples + 1) ≤ length aside
     → Gridded s a t t0 dt final (take r aside) v front
     → Aside (gridNo s a t t0 dt final) (gridEntry s a t t0 dt) (gridEntries s a t t0 dt final) aside front out r (gridNo s a t t0 dt final (length (take r aside)))
 here s a t t0 dt final aside front out r v e h o = record {
@@ -88,8 +91,10 @@ returns c =
     let e = f .before .before .before .before .before .before .before .before in
     let a = e .args in
     let o = f .t-to-s-topp2-grid .ensures in
-    let w = here (a .s .now) (a .a .now) (a .t .now) (a .t0) (a .dt) (a .end) (a .aside .now) _ (a .out .now) _ _ (f .before .before .room .ensures) (e .pre) o in
-    counts w (gridCounts (a .s .now) (a .a .now) (a .t .now) (a .t0) (a .dt) (a .end)) (written-entries _ _ _ _) _ (o .answer) _ _ (rw (c .before .before .before .before .written .ensures) at (c .before .before .encode .ensures))
+    let w = here (a .s .now) (a .a .now) (a .t .now) (a .t0) (a .dt) (a .end) (a .aside .now) _ (a .out .now) _ _
+    (f .before .before .room .ensures) (e .pre) o in
+    let encoded = rw (c .before .before .before .before .written .ensures) at (c .before .before .encode .ensures) in
+    counts w (gridCounts (a .s .now) (a .a .now) (a .t .now) (a .t0) (a .dt) (a .end)) (written-entries _ _ _ _) _ (o .answer) _ _ encoded
 
 pub sampled-spec : {M : Type 1} → statement M
 sampled-spec =

@@ -51,11 +51,14 @@ loop-less : tie.Need-loop-less Inv-loop μ-loop
 loop-less c = omega arith
 
 loop-again : tie.Need-loop-again Inv-loop μ-loop
-loop-again c = let l = c .before .before .before .before .before .before .before .loop in
-    let a = c .before .before .before .before .before .before .before .before .before .before .before .before .args in (
-      c .before .before .put-word .kept .0 ∙ l .inv .0,
+loop-again c =
+    let w = c .before .before .before .before .before .before .before in
+    let l = w .loop in
+    let a = w .before .before .before .before .before .args in
+    let p = c .before .before .put-word in (
+      p .kept .0 ∙ l .inv .0,
       omega arith,
-      c .before .before .put-word .ensures ∙ fill-word (at (a .x .now)) (l .k) _ (a .out .now) (l .out) (omega arith) (l .inv .2) (c .before .before .before .pattern-of .ensures),
+      p .ensures ∙ fill-word (at (a .x .now)) (l .k) _ (a .out .now) (l .out) (omega arith) (l .inv .2) (c .before .before .before .pattern-of .ensures),
       l .inv .3,
       l .inv .4,
     )
@@ -64,8 +67,10 @@ same-length : tie.Need-same-length Inv-loop μ-loop
 same-length c = c .before .loop .inv .0
 
 returns : tie.Need-returns Inv-loop μ-loop
-returns c = let a = c .before .before .before .before .before .before .args in
-    let k : c .before .loop .k ≡ min (a .n) (min (length (a .out .now) / 8) (length (a .x .now))) = omega (arith, c .before .before .least .ensures ∙ ap (min (a .n)) (c .before .before .before .room .ensures)) in
+returns c =
+    let a = c .before .before .before .before .before .before .args in
+    let least = c .before .before .least .ensures ∙ ap (min (a .n)) (c .before .before .before .room .ensures) in
+    let k : c .before .loop .k ≡ min (a .n) (min (length (a .out .now) / 8) (length (a .x .now))) = omega (arith, least) in
     c .before .loop .inv .2 ∙ ap (λ (j : ℕ). filled (byteOf (at (a .x .now))) (8 * j) (a .out .now)) k
 
 pub encode-spec : {M : Type 1} → statement M

@@ -15,7 +15,7 @@ abbrev stations-read : tie.After-decode2 → tie.After-decode
 stations-read d = d .before .before .before
 
 abbrev started : tie.After-decode → tie.Start
-started d = d .before .before .before .before .before .before .before .before .before
+started d = let w = d .before .before .before .before .before in w .before .before .before .before
 
 slice-aggregate-decode : tie.Need-slice-aggregate-decode
 slice-aggregate-decode c = search needs
@@ -43,8 +43,9 @@ array-share-prefix-stations c = search needs
 
 slice-aggregate-sampled : tie.Need-slice-aggregate-sampled
 slice-aggregate-sampled c =
-    let d = c .before .before .before .before .before .before .before .before .before .before .before .before in
-    let e = d .before .before .before .before .before .before .before .before .before in
+    let x = c .before .before .before in
+    let d = stations-read (speeds-read (times-read x)) in
+    let e = started d in
     front-count (e .args .s .now) _ _ (d .decode .ensures) (e .pre .0)
 
 array-share-prefix-speeds : tie.Need-array-share-prefix-speeds
@@ -52,7 +53,8 @@ array-share-prefix-speeds c = search needs
 
 slice-aggregate-sampled-2 : tie.Need-slice-aggregate-sampled-2
 slice-aggregate-sampled-2 c =
-    let d = c .before .before .before .before .before .before .before .before .before .before in
+    let x = c .before .before .before .before in
+    let d = speeds-read (times-read x) in
     let e = started (stations-read d) in
     front-count (e .args .a .now) _ _ (d .decode2 .ensures) (e .pre .1)
 
@@ -91,14 +93,16 @@ same-length-3 c = search needs
 
 returns : tie.Need-returns
 returns c =
-    let d = c .before .before .before .before .before .before .before .before .before .before .before .before .before in
+    let called = c .before .before .before .before in
+    let handed = called .before .before .before in
+    let d = handed .before .before .before .before .before .before in
     let e = started (stations-read (speeds-read (times-read d))) in
     rw (
       front-is (e .args .s .now) _ _ (stations-read (speeds-read (times-read d)) .decode .ensures) (e .pre .0),
       front-is (e .args .a .now) _ _ (speeds-read (times-read d) .decode2 .ensures) (e .pre .1),
       front-is (e .args .t .now) _ _ (times-read d .decode3 .ensures) (e .pre .2),
       front-is (e .args .x .now) _ _ (d .decode4 .ensures) (e .pre .3),
-    ) at (c .before .before .before .before .sampled .ensures)
+    ) at (called .sampled .ensures)
 
 pub decoded-spec : {M : Type 1} → statement M
 decoded-spec =

@@ -55,11 +55,13 @@ same-length-2 c = search needs
 returns : tie.Need-returns
 returns c =
     let f = c .before .before .before .before .before .before .before .before in
-    let e = f .before .before .before .before .before .before .before .before .before in
+    let r = f .before .before in
+    let e = r .before .before .before .before .before .before .before in
     let a = e .args in
     let o = f .t-to-s-topp2-list .ensures in
-    let w = here (a .s .now) (a .a .now) (a .t .now) (a .x .now) (a .aside .now) _ (a .out .now) _ _ (f .before .before .room .ensures) (e .pre) o in
-    counts w (listCounts (a .t .now) (a .x .now)) (written-entries _ _ _ _) _ (o .answer) _ _ (rw (c .before .before .before .before .written .ensures) at (c .before .before .encode .ensures))
+    let w = here (a .s .now) (a .a .now) (a .t .now) (a .x .now) (a .aside .now) _ (a .out .now) _ _ (r .room .ensures) (e .pre) o in
+    let encoded = rw (c .before .before .before .before .written .ensures) at (c .before .before .encode .ensures) in
+    counts w (listCounts (a .t .now) (a .x .now)) (written-entries _ _ _ _) _ (o .answer) _ _ encoded
 
 pub sampled-spec : {M : Type 1} → statement M
 sampled-spec =

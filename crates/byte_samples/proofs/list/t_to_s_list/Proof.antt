@@ -29,7 +29,8 @@ returns c =
 
 returns-2 : tie.Need-returns-2
 returns-2 c =
-    let a = c .before .before .before .before .before .before .before .before .before .args in
+    let p = c .before .before .before in
+    let a = p .before .before .before .before .before .before .args in
     let first = inEights (a .s .now) && (inEights (a .a .now) && inEights (a .out .now)) in
     refuses 10 (ten-refused _ _ (not-second first _ (sym (c .before .in-eights2 .ensures) ∙ c .if2 .left))) (omega arith)
 

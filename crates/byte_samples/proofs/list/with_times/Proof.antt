@@ -33,9 +33,12 @@ refusal-requires : tie.Need-refusal-requires
 refusal-requires c κs = search needs
 
 returns-3 : tie.Need-returns-3
-returns-3 c = let a = c .before .before .before .before .before .before .before .before .before .args in
+returns-3 c =
+    let many-samples = c .before .before in
+    let e = many-samples .before .before .before .before .before .before .before in
+    let a = e .args in
     let z = sym (c .before .refusal .ensures) ∙ c .if3 .taken in
-    let many : mostSamples < length (doublesOf (a .x .now)) = omega (arith, length-doubles (a .x .now), c .before .before .if2 .left) in
+    let many : mostSamples < length (doublesOf (a .x .now)) = omega (arith, length-doubles (a .x .now), many-samples .if2 .left) in
     refuses 28 (many-listed (doublesOf (a .s .now)) (doublesOf (a .a .now)) (doublesOf (a .t .now)) (doublesOf (a .x .now)) _ z many) (omega arith)
 
 returns-4 : tie.Need-returns-4

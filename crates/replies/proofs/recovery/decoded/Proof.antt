@@ -53,7 +53,9 @@ recover-forward-intersection-requires c κs = search needs
 returns-2 : tie.Need-returns-2
 returns-2 c =
     let a = c .before .before .before .before .before .before .before .args in
-    c .recover-forward-intersection .ensures ∙ ap (recovered (a .q)) (front-is (a .rows .now) _ _ (c .before .before .before .decode .ensures) (omega (arith, c .before .before .before .before .before .if1 .left)))
+    let read = c .before .before .before in
+    c .recover-forward-intersection .ensures
+    ∙ ap (recovered (a .q)) (front-is (a .rows .now) _ _ (read .decode .ensures) (omega (arith, read .before .before .if1 .left)))
 
 pub decoded-spec : {M : Type 1} → statement M
 decoded-spec =

@@ -21,13 +21,15 @@ returns : tie.Need-returns
 returns c =
     let b = c .before .before .before in
     let s = b .before .before in
-    unmeetable-read (s .args .tol) (s .args .a) (asked s) _ (b .before .hypot .ensures .is) (sym (b .both-finite .ensures) ∙ c .before .before .if1 .taken) (c .before .if2 .taken) (c .if3 .taken)
+    unmeetable-read (s .args .tol) (s .args .a) (asked s) _ (b .before .hypot .ensures .is)
+    (sym (b .both-finite .ensures) ∙ c .before .before .if1 .taken) (c .before .if2 .taken) (c .if3 .taken)
 
 returns-2 : tie.Need-returns-2
 returns-2 c =
     let b = c .before .before .before in
     let s = b .before .before in
-    silent-read (s .args .tol) (s .args .a) (asked s) _ (b .before .hypot .ensures .is) (sym (b .both-finite .ensures) ∙ c .before .before .if1 .taken) (c .before .if2 .taken) (c .if3 .left)
+    silent-read (s .args .tol) (s .args .a) (asked s) _ (b .before .hypot .ensures .is)
+    (sym (b .both-finite .ensures) ∙ c .before .before .if1 .taken) (c .before .if2 .taken) (c .if3 .left)
 
 scale-requires : tie.Need-scale-requires
 scale-requires c κs = search needs

@@ -29,7 +29,8 @@ returns c =
 returns-2 : tie.Need-returns-2
 returns-2 c =
     let a = c .before .absolute in
-    maximum-kept binary64 (a .result) one (holds (a .ok)) (ofBits-fits binary64 0x3ff0000000000000) one-number one-unsigned (c .if1 .left) ∙ ap (λ (x : Float). maximum x one) (a .ensures)
+    maximum-kept binary64 (a .result) one (holds (a .ok)) (ofBits-fits binary64 0x3ff0000000000000) one-number one-unsigned (c .if1 .left)
+    ∙ ap (λ (x : Float). maximum x one) (a .ensures)
 
 pub scale-spec : {M : Type 1} → statement M
 scale-spec = tie.close (tie.spec absolute-requires returns returns-2)
