@@ -86,7 +86,8 @@ under-down f x F (negative m e) =
     (omega (arith, below-sign f b B), record { no-nan = not-nan-bits f n (rw (at, sign-off f true b (below-sign f b B)) B); reads = under-next f m e })
 
 -- neither above zero nor zero, and above -infinity
-pub down-below : (f : Format) (x : Float) → T (fits f x) → (T (lt nought x) → ⊥) → (T (eq x nought) → ⊥) → T (lt (inf true) x) → (toBits f x + 1 < 2 * top f) × Down f x (toBits f x + 1)
+pub down-below : (f : Format) (x : Float) → T (fits f x) → (T (lt nought x) → ⊥) → (T (eq x nought) → ⊥) → T (lt (inf true) x)
+    → (toBits f x + 1 < 2 * top f) × Down f x (toBits f x + 1)
 down-below f x F a z i =
     let l : T (lt x nought) = elim (lt-or-le x nought (lt-number (inf true) x i .1) tt) [
       | inl k ↦ k

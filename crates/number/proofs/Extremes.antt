@@ -1,5 +1,5 @@
--- `minimum` and `maximum` are associative, commutative and idempotent on the values that a format holds, NaN included. So the least and the greatest of a list depend only on which values it has.
--- The greater is no less than a number. Assumes nothing.
+-- `minimum` and `maximum` are associative, commutative and idempotent on the values that a format holds, NaN included.
+-- So the least and the greatest of a list depend only on which values it has. The greater is no less than a number. Assumes nothing.
 use mathlib.Core.Path.{_≡_, refl, sym, _∙_, subst, fun-ext}
 use mathlib.Core.Logic.{_⊎_, inl, inr}
 use mathlib.Core.Bool.{Bool, true, false, not, _&&_, _||_, cond}
@@ -96,10 +96,16 @@ same-value f (inf false) (fin v n d) F G h k s t = absurd h
 same-value f (fin u m e) nan F G h k s t = absurd h
 same-value f (fin u m e) (inf true) F G h k s t = absurd h
 same-value f (fin u m e) (inf false) F G h k s t = absurd k
-same-value f (fin true m e) (fin true n d) F G h k s t = one-value f (fin true m e) (fin true n d) true (m * up e) (down e) (down-pos e) F G (refl, refl) (refl, omega (arith, le→AtMost (fin true m e) (fin true n d) tt tt h, le→AtMost (fin true n d) (fin true m e) tt tt k))
+same-value f (fin true m e) (fin true n d) F G h k s t =
+    let x = fin true m e in
+    let y = fin true n d in
+    one-value f x y true (m * up e) (down e) (down-pos e) F G (refl, refl) (refl, omega (arith, le→AtMost x y tt tt h, le→AtMost y x tt tt k))
 same-value f (fin true m e) (fin false n d) F G h k s t = absurd t
 same-value f (fin false m e) (fin true n d) F G h k s t = absurd s
-same-value f (fin false m e) (fin false n d) F G h k s t = one-value f (fin false m e) (fin false n d) false (m * up e) (down e) (down-pos e) F G (refl, refl) (refl, omega (arith, le→AtMost (fin false m e) (fin false n d) tt tt h, le→AtMost (fin false n d) (fin false m e) tt tt k))
+same-value f (fin false m e) (fin false n d) F G h k s t =
+    let x = fin false m e in
+    let y = fin false n d in
+    one-value f x y false (m * up e) (down e) (down-pos e) F G (refl, refl) (refl, omega (arith, le→AtMost x y tt tt h, le→AtMost y x tt tt k))
 
 upTo-anti : (f : Format) (x y : Float) → T (number x) → T (number y) → T (fits f x) → T (fits f y) → T (upTo x y) → T (upTo y x) → x ≡ y
 upTo-anti f x y X Y F G h k =
@@ -181,4 +187,7 @@ maximum-ge x y X = rw (no-nan x X) (go (isNan y) (countsBelow x y) (λ t. t))
     go : (n b : Bool) → (T b → T (countsBelow x y)) → T (le x (cond n x (cond b y x)))
     go true b h = le-reflexive x X
     go false false h = le-reflexive x X
-    go false true h = elim (or-split (lt x y) (eq x y && (negative x && not (negative y))) (h tt)) [ inl l ↦ lt-le x y l | inr e ↦ eq-le x y (and-l (eq x y) (negative x && not (negative y)) e) ]
+    go false true h = elim (or-split (lt x y) (eq x y && (negative x && not (negative y))) (h tt)) [
+      | inl l ↦ lt-le x y l
+      | inr e ↦ eq-le x y (and-l (eq x y) (negative x && not (negative y)) e)
+    ]

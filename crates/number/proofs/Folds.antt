@@ -96,7 +96,10 @@ module _ {A : Type 0} (P : A → Type 0) (R : A → A → Bool) (O : TotalOrder 
   pub lesser-lattice : Semilattice P (lesser R)
   lesser-lattice = record {
     closed = ok;
-    commutative = λ x y X Y. O .anti (lesser R x y) (lesser R y x) (ok x y X Y) (ok y x Y X) (glb (lesser R x y) y x Y X (low-r x y X Y) (low-l x y X Y)) (glb (lesser R y x) x y X Y (low-r y x Y X) (low-l y x Y X));
+    commutative = λ x y X Y.
+        let u = lesser R x y in
+        let v = lesser R y x in
+        O .anti u v (ok x y X Y) (ok y x Y X) (glb u y x Y X (low-r x y X Y) (low-l x y X Y)) (glb v x y X Y (low-r y x Y X) (low-l y x Y X));
     associative = both;
     idempotent = λ x X. elim (which x x X X) [ inl p ↦ p .0 | inr p ↦ p .0 ];
   }

@@ -1,10 +1,11 @@
--- A finite value as a signed fraction, (plusPart x - minusPart x) / den x, over natural numbers; `den` is lib.Ieee.Positive's. Two finite values are in the order of their fractions,
--- which is an inequality of natural numbers. Assumes nothing.
+-- A finite value as a signed fraction, (plusPart x - minusPart x) / den x, over natural numbers; `den` is lib.Ieee.Positive's.
+-- Two finite values are in the order of their fractions, which is an inequality of natural numbers. Assumes nothing.
 use mathlib.Core.Path.{_≡_, refl, ap, _∙_}
 use mathlib.Core.Logic.{_⊎_, inl, inr}
 use mathlib.Core.Bool.{Bool, true, false, _||_}
 use Prim.Native.Nat.{ℕ, _+_, _*_, _≤_, _<_}
-use native.Mathlib.Nat.{le-of-eq, le-of-lt, eq-or-lt-of-le, zero-mul, mul-comm, mul-assoc, mul-left-comm, mul-add, add-mul, mul-pos, mul-le-mul-right, mul-lt-mul-of-pos-right, le-of-mul-le-mul-right, lt-of-mul-lt-mul-right}
+use native.Mathlib.Nat.{le-of-eq, le-of-lt, eq-or-lt-of-le, le-of-mul-le-mul-right, lt-of-mul-lt-mul-right}
+use native.Mathlib.Nat.{zero-mul, mul-comm, mul-assoc, mul-left-comm, mul-add, add-mul, mul-pos, mul-le-mul-right, mul-lt-mul-of-pos-right}
 use native.Mathlib.Omega.{arith}
 use lib.Dec.{T, eqb, eqb→eq, ltb→lt, lt→ltb}
 use lib.IntN.{ℤ}
@@ -99,7 +100,8 @@ abbrev pub Below : ℕ → ℕ → ℕ → ℕ → ℕ → ℕ → Type 0
 Below p n d p' n' d' = p * d' + n' * d < p' * d + n * d'
 
 -- what holds of two significands with their exponents holds of two finite doubles
-both-finite : (P : Float → Float → Type 0) → ((s : Bool) (m : ℕ) (e : ℤ) (t : Bool) (n : ℕ) (d : ℤ) → P (fin s m e) (fin t n d)) → (x y : Float) → T (finite x) → T (finite y) → P x y
+both-finite : (P : Float → Float → Type 0) → ((s : Bool) (m : ℕ) (e : ℤ) (t : Bool) (n : ℕ) (d : ℤ) → P (fin s m e) (fin t n d))
+    → (x y : Float) → T (finite x) → T (finite y) → P x y
 both-finite P f nan y a b = absurd a
 both-finite P f (inf s) y a b = absurd a
 both-finite P f (fin s m e) nan a b = absurd b
@@ -174,7 +176,9 @@ module _ (x y : Float) (s t : Bool) (a b c : ℕ) (C : 0 < c) (v : HasValue x s 
   left = side (plusPart x) (den x) (minusPart y) (den y) (plusOf s a) (minusOf t b) c (value-parts x s a c v .0) (value-parts y t b c w .1)
 
   right : (plusPart y * den x + minusPart x * den y) * c ≡ (plusOf t b + minusOf s a) * (den x * den y)
-  right = side (plusPart y) (den y) (minusPart x) (den x) (plusOf t b) (minusOf s a) c (value-parts y t b c w .0) (value-parts x s a c v .1) ∙ ap (λ (z : ℕ). (plusOf t b + minusOf s a) * z) (mul-comm (den y) (den x))
+  right =
+      side (plusPart y) (den y) (minusPart x) (den x) (plusOf t b) (minusOf s a) c (value-parts y t b c w .0) (value-parts x s a c v .1)
+      ∙ ap (λ (z : ℕ). (plusOf t b + minusOf s a) * z) (mul-comm (den y) (den x))
 
   pub lt→values : T (lt x y) → plusOf s a + minusOf t b < plusOf t b + minusOf s a
   lt→values h = lt-of-mul-lt-mul-right (den x * den y) (rw (left, right) at (mul-lt-mul-of-pos-right (lt→Below x y (value-finite .0) (value-finite .1) h) C))

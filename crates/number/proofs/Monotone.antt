@@ -1,5 +1,6 @@
--- Each rounded operation keeps the order of one operand, or turns it round, in any format: the sum, the difference, the product with a constant and the quotient by one, of either sign.
--- Operands and results may be infinite; where an infinite operand can give a NaN, both results are to be numbers. And a finite result has finite operands. Assumes nothing.
+-- Each rounded operation keeps the order of one operand, or turns it round, in any format: the sum, the difference,
+-- the product with a constant and the quotient by one, of either sign. Operands and results may be infinite;
+-- where an infinite operand can give a NaN, both results are to be numbers. And a finite result has finite operands. Assumes nothing.
 use mathlib.Core.Path.{_≡_, refl, sym, ap, _∙_}
 use mathlib.Core.Logic.{inl, inr}
 use mathlib.Core.Bool.{Bool, true, false, not, cond}
@@ -13,7 +14,8 @@ use lib.Ieee.Fits.{up-pos}
 use lib.Ieee.Scale.{finite}
 use lib.Ieee.Positive.{den, den-pos, first-pos}
 use Rattle.number.proofs.Fractions.{plusPart, minusPart, AtMost, le→AtMost, lt→Below, ring}
-use Rattle.number.proofs.Order.{signed, below-zero, not-infinite, number, nought, le-number, least, greatest, no-less, no-more, le-reflexive, le-transitive, le-neg, le-neg-back, neg-number, neg-finite, finite-neg, lt-not-le, le-lt-transitive, lt-neg}
+use Rattle.number.proofs.Order.{signed, number, nought, below-zero, not-infinite, least, greatest, no-less, no-more, neg-number, neg-finite, finite-neg}
+use Rattle.number.proofs.Order.{le-number, le-reflexive, le-transitive, le-neg, le-neg-back, lt-not-le, le-lt-transitive, lt-neg}
 use Rattle.number.proofs.Rounded.{round-signed, round-neg, Rounds, rounds-mono, add-rounds, mul-rounds, div-rounds}
 
 -- what is rounded is a number
@@ -88,7 +90,8 @@ add-fractions p n d p' n' d' a b c h = simp ring (omega (arith, simp ring at (mu
 
 add-rounded : (f : Format) (k x y : Float) → T (finite k) → T (finite x) → T (finite y) → T (le x y) → T (le (add f x k) (add f y k))
 add-rounded f k x y K X Y h =
-    rounds-mono f (add f x k) (add f y k) _ _ (den x * den k) _ _ (den y * den k) (mul-pos (den-pos x) (den-pos k)) (mul-pos (den-pos y) (den-pos k)) (add-rounds f x k X K) (add-rounds f y k Y K)
+    rounds-mono f (add f x k) (add f y k) _ _ (den x * den k) _ _ (den y * den k)
+    (mul-pos (den-pos x) (den-pos k)) (mul-pos (den-pos y) (den-pos k)) (add-rounds f x k X K) (add-rounds f y k Y K)
     (add-fractions (plusPart x) (minusPart x) (den x) (plusPart y) (minusPart y) (den y) (plusPart k) (minusPart k) (den k) (le→AtMost x y X Y h))
 
 add-of-finite : (f : Format) (k x y : Float) → T (finite x) → T (finite y) → T (number (add f x k)) → T (le x y) → T (le (add f x k) (add f y k))
@@ -171,7 +174,8 @@ mul-fractions p n d p' n' d' a b c z h = rw z (simp (ring, zero-mul) (omega (ari
 
 pub mul-keeps : (f : Format) (c x y : Float) → T (finite c) → T (le nought c) → T (number (mul f c x)) → T (number (mul f c y)) → T (le x y) → T (le (mul f c x) (mul f c y))
 mul-keeps f c x y C z = through (mul f c) (λ s. mul-infinite f s c C z) (λ x y X Y p h.
-    rounds-mono f (mul f c x) (mul f c y) _ _ (den c * den x) _ _ (den c * den y) (mul-pos (den-pos c) (den-pos x)) (mul-pos (den-pos c) (den-pos y)) (mul-rounds f c x C X) (mul-rounds f c y C Y)
+    rounds-mono f (mul f c x) (mul f c y) _ _ (den c * den x) _ _ (den c * den y)
+    (mul-pos (den-pos c) (den-pos x)) (mul-pos (den-pos c) (den-pos y)) (mul-rounds f c x C X) (mul-rounds f c y C Y)
     (mul-fractions (plusPart x) (minusPart x) (den x) (plusPart y) (minusPart y) (den y) (plusPart c) (minusPart c) (den c) (not-below c C z) (le→AtMost x y X Y h))) x y
 
 -- zero is no more than what a value below zero is turned into
@@ -221,8 +225,10 @@ div-above f n d x y N h =
     let K : 0 < n * up d = mul-pos N (up-pos d) in
     let v = le-number x y h in
     through (λ x. div f x k) (λ s p. div-infinite f s n d) (λ x y X Y p h.
-    rounds-mono f (div f x k) (div f y k) _ _ (n * up d * den x) _ _ (n * up d * den y) (mul-pos K (den-pos x)) (mul-pos K (den-pos y)) (div-rounds f x n d X N) (div-rounds f y n d Y N)
-    (div-fractions (plusPart x) (minusPart x) (den x) (plusPart y) (minusPart y) (den y) (down d) (n * up d) (le→AtMost x y X Y h))) x y (div-number f x n d (v .0) N) (div-number f y n d (v .1) N) h
+    rounds-mono f (div f x k) (div f y k) _ _ (n * up d * den x) _ _ (n * up d * den y)
+    (mul-pos K (den-pos x)) (mul-pos K (den-pos y)) (div-rounds f x n d X N) (div-rounds f y n d Y N)
+    (div-fractions (plusPart x) (minusPart x) (den x) (plusPart y) (minusPart y) (den y) (down d) (n * up d) (le→AtMost x y X Y h)))
+    x y (div-number f x n d (v .0) N) (div-number f y n d (v .1) N) h
 
 pub div-keeps : (f : Format) (c x y : Float) → T (finite c) → T (lt nought c) → T (le x y) → T (le (div f x c) (div f y c))
 div-keeps f nan x y C z h = absurd C
@@ -231,7 +237,9 @@ div-keeps f (fin true n d) x y C z h = absurd (lt-not-le nought (fin true n d) z
 div-keeps f (fin false n d) x y C z h = div-above f n d x y (first-pos n (up d) (omega (arith, lt→Below nought (fin false n d) tt tt z))) h
 
 pub div-turns : (f : Format) (c x y : Float) → T (finite c) → T (lt c nought) → T (le x y) → T (le (div f y c) (div f x c))
-div-turns f c x y C z h = le-neg-back (div f x c) (div f y c) (rw (div-neg f x c, div-neg f y c) at (div-keeps f (neg c) x y (neg-finite c C) (le-lt-transitive nought (neg nought) (neg c) (turned nought (le-reflexive nought tt)) (lt-neg c nought z)) h))
+div-turns f c x y C z h =
+    let above : T (lt nought (neg c)) = le-lt-transitive nought (neg nought) (neg c) (turned nought (le-reflexive nought tt)) (lt-neg c nought z) in
+    le-neg-back (div f x c) (div f y c) (rw (div-neg f x c, div-neg f y c) at (div-keeps f (neg c) x y (neg-finite c C) above h))
 
 -- ---- where finite operands are enough for a number
 

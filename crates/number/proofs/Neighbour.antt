@@ -14,7 +14,8 @@ use lib.Ieee.Exact.{HasValue}
 use lib.Ieee.Bits.{ofBits-fits}
 use lib.Ieee.Scale.{finite}
 use Rattle.number.specs.Leaves.{nextDown}
-use Rattle.number.proofs.Patterns.{sizeAt, infinite-pos, pattern-value, pattern-negative, infinite-written, infinite-negative, sizes-rise, sizes-tell, Pattern, pattern-below, pattern-of, pattern-pos}
+use Rattle.number.proofs.Patterns.{sizeAt, sizes-rise, sizes-tell, Pattern, pattern-below, pattern-of, pattern-pos, pattern-value, pattern-negative}
+use Rattle.number.proofs.Patterns.{infinite-pos, infinite-written, infinite-negative}
 use Rattle.number.proofs.Fractions.{plusOf, minusOf, lt→values, values→lt}
 use Rattle.number.proofs.Order.{lt-number, lt-not-le, least, strictly-finite}
 
@@ -49,7 +50,8 @@ largest-value f =
     (pattern-value f (ones f * hid f - 1) (omega (arith, infinite-pos f)))
 
 -- below a value above zero, whose pattern is b
-lower-value : (f : Format) (m : ℕ) (e : ℤ) (b : ℕ) → toBits f (fin false (suc m) e) ≡ 0 + b → b < ones f * hid f → HasValue (nextDown f (fin false (suc m) e)) false (sizeAt f (b - 1)) (2 ^ low f)
+lower-value : (f : Format) (m : ℕ) (e : ℤ) (b : ℕ) → toBits f (fin false (suc m) e) ≡ 0 + b → b < ones f * hid f
+    → HasValue (nextDown f (fin false (suc m) e)) false (sizeAt f (b - 1)) (2 ^ low f)
 unfolding nextDown
 lower-value f m e b w h =
     subst (λ (n : ℕ). HasValue (ofBits f (n - 1)) false (sizeAt f (b - 1)) (2 ^ low f)) (sym (w ∙ zero-add b))
@@ -127,12 +129,14 @@ module _ (f : Format) (y : Float) (G : T (fits f y)) (Y : T (finite y)) where
   -- y's pattern is larger than that of a value that it is above, or that it is below on the negative side, and smaller the other way round
   above : (x : Float) (b : ℕ) → HasValue x false (sizeAt f b) (2 ^ low f) → T (lt x y) → (q .sign ≡ false) × (b < q .magnitude)
   above x b v h =
-      let r = above→ (q .sign) (sizeAt f b) (sizeAt f (q .magnitude)) (lt→values x y false (q .sign) (sizeAt f b) (sizeAt f (q .magnitude)) (2 ^ low f) (pow-pos (low f)) v (q .value) h) in
+      let n = sizeAt f (q .magnitude) in
+      let r = above→ (q .sign) (sizeAt f b) n (lt→values x y false (q .sign) (sizeAt f b) n (2 ^ low f) (pow-pos (low f)) v (q .value) h) in
       (r .0, sizes-tell f b (q .magnitude) (r .1))
 
   under : (x : Float) (b : ℕ) → HasValue x true (sizeAt f b) (2 ^ low f) → T (lt y x) → (q .sign ≡ true) × (b < q .magnitude)
   under x b v h =
-      let r = under→ (q .sign) (sizeAt f b) (sizeAt f (q .magnitude)) (lt→values y x (q .sign) true (sizeAt f (q .magnitude)) (sizeAt f b) (2 ^ low f) (pow-pos (low f)) (q .value) v h) in
+      let n = sizeAt f (q .magnitude) in
+      let r = under→ (q .sign) (sizeAt f b) n (lt→values y x (q .sign) true n (sizeAt f b) (2 ^ low f) (pow-pos (low f)) (q .value) v h) in
       (r .0, sizes-tell f b (q .magnitude) (r .1))
 
   smaller : (x : Float) (b : ℕ) → q .sign ≡ false → HasValue x false (sizeAt f b) (2 ^ low f) → T (lt y x) → q .magnitude < b

@@ -1,5 +1,5 @@
--- The order of values, which needs no format: `le` is reflexive off NaN, transitive and total, with the infinities at its ends; `lt` is what `le` the other way round excludes; and what lies between finite values is finite.
--- Assumes nothing.
+-- The order of values, which needs no format: `le` is reflexive off NaN, transitive and total, with the infinities at its ends;
+-- `lt` is what `le` the other way round excludes; and what lies between finite values is finite. Assumes nothing.
 use mathlib.Core.Path.{_≡_, refl, sym, subst}
 use mathlib.Core.Logic.{_⊎_, inl, inr}
 use mathlib.Core.Bool.{Bool, true, false, not, Bool·beq}
@@ -12,7 +12,8 @@ use lib.Ieee.{Float, nan, inf, fin, up, down, neg, le, lt, eq, ne, isNan}
 use lib.Ieee.Compare.{nan-differs}
 use lib.Ieee.Scale.{finite}
 use lib.Ieee.Positive.{den, den-pos}
-use Rattle.number.proofs.Fractions.{or-l, or-r, or-split, plusOf, minusOf, level→, at-most→, →at-most, plusPart, minusPart, le→AtMost, AtMost→le, lt→Below, Below→lt, at-most-trans}
+use Rattle.number.proofs.Fractions.{or-l, or-r, or-split, plusOf, minusOf, plusPart, minusPart}
+use Rattle.number.proofs.Fractions.{level→, at-most→, →at-most, le→AtMost, AtMost→le, lt→Below, Below→lt, at-most-trans}
 
 -- ---- what a test's answer says
 
@@ -151,7 +152,8 @@ le-transitive (fin s m e) (fin t n d) (fin u l c) h k =
     let y = fin t n d in
     let z = fin u l c in
     AtMost→le x z tt tt
-    (at-most-trans (plusPart x) (minusPart x) (den x) (plusPart y) (minusPart y) (den y) (plusPart z) (minusPart z) (den z) (den-pos y) (le→AtMost x y tt tt h) (le→AtMost y z tt tt k))
+    (at-most-trans (plusPart x) (minusPart x) (den x) (plusPart y) (minusPart y) (den y) (plusPart z) (minusPart z) (den z)
+    (den-pos y) (le→AtMost x y tt tt h) (le→AtMost y z tt tt k))
 
 -- x < y and y ≤ x exclude one another, and of two numbers one of them holds
 pub lt-not-le : (x y : Float) → T (lt x y) → T (le y x) → ⊥
@@ -193,7 +195,10 @@ lt-or-le (fin s m e) (inf false) p q = inl tt
 lt-or-le (fin s m e) (fin t n d) p q =
     let x = fin s m e in
     let y = fin t n d in
-    elim (less-or-not (plusPart x * den y + minusPart y * den x) (plusPart y * den x + minusPart x * den y)) [ inl l ↦ inl (Below→lt x y tt tt l) | inr g ↦ inr (AtMost→le y x tt tt g) ]
+    elim (less-or-not (plusPart x * den y + minusPart y * den x) (plusPart y * den x + minusPart x * den y)) [
+      | inl l ↦ inl (Below→lt x y tt tt l)
+      | inr g ↦ inr (AtMost→le y x tt tt g)
+    ]
 
 pub le-total : (x y : Float) → T (number x) → T (number y) → T (le x y) ⊎ T (le y x)
 le-total x y p q = elim (lt-or-le x y p q) [ inl l ↦ inl (lt-le x y l) | inr g ↦ inr g ]
@@ -305,7 +310,9 @@ finite-neg (inf s) h = absurd h
 finite-neg (fin s m e) h = tt
 
 pub lt-neg : (x y : Float) → T (lt x y) → T (lt (neg y) (neg x))
-lt-neg x y h = let n = lt-number x y h in elim (lt-or-le (neg y) (neg x) (neg-number y (n .1)) (neg-number x (n .0))) [ inl l ↦ l | inr g ↦ absurd (lt-not-le x y h (le-neg-back x y g)) ]
+lt-neg x y h =
+    let n = lt-number x y h in
+    elim (lt-or-le (neg y) (neg x) (neg-number y (n .1)) (neg-number x (n .0))) [ inl l ↦ l | inr g ↦ absurd (lt-not-le x y h (le-neg-back x y g)) ]
 
 -- ---- what lies between two finite values is finite
 

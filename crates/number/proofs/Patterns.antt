@@ -1,11 +1,13 @@
--- What a bit pattern stands for, in units of the format's smallest value, in any format. A pattern is the sign's weight and a magnitude's pattern b: below `ones f * hid f` b is finite,
--- there it is an infinity, above it a NaN. Magnitudes' patterns sort as the values do. Assumes nothing.
+-- What a bit pattern stands for, in units of the format's smallest value, in any format. A pattern is the sign's weight and
+-- a magnitude's pattern b: below `ones f * hid f` b is finite, there it is an infinity, above it a NaN.
+-- Magnitudes' patterns sort as the values do. Assumes nothing.
 use mathlib.Core.Path.{_≡_, refl, sym, ap, ap₂, _∙_, subst}
 use mathlib.Core.Logic.{_⊎_, inl, inr}
 use mathlib.Core.Bool.{Bool, true, false, not, cond}
 use Prim.Native.Nat.{ℕ, zero, suc, _+_, _-_, _*_, _/_, _%_, _^_, _≤_, _<_}
 use native.Mathlib.Nat.{le-trans, le-of-eq, lt-of-lt-of-le, lt-of-not-le, lt-trans, lt-irrefl, eq-zero-or-pos, eq-or-lt-of-le, zero-add, zero-mul, mul-one}
-use native.Mathlib.Nat.{mul-assoc, mul-right-comm, mul-pos, mul-le-mul-left, mul-le-mul-right, mul-lt-mul-of-pos-right, div-add-mod', div-eq-of-lt, mod-eq-of-lt, mod-lt, mod-eq-sub-mod}
+use native.Mathlib.Nat.{mul-assoc, mul-right-comm, mul-pos, mul-le-mul-left, mul-le-mul-right, mul-lt-mul-of-pos-right}
+use native.Mathlib.Nat.{div-add-mod', div-eq-of-lt, mod-eq-of-lt, mod-lt, mod-eq-sub-mod}
 use native.Mathlib.Nat.{add-mod-left, mul-add-mod-self-left, mul-div-cancel, mul-mod-left, div-lt-iff-lt-mul, pow-suc, pow-succ', zero-lt-suc, le-add-right}
 use native.Mathlib.Omega.{arith}
 use borrow.Author.Tests.{le-ltb, le-leb, lt-leb, ne-eqb, eq-eqb}
@@ -169,7 +171,10 @@ sizes-rise f a b l = go (eq-or-lt-of-le (shr-mono {a = a} {b = b} (prec f - 1) (
     go (inr h) = fields-rise f (a / hid f) (a % hid f) (b / hid f) (b % hid f) (mod-lt a (hid-pos f)) h
 
 pub sizes-tell : (f : Format) (a b : ℕ) → sizeAt f a < sizeAt f b → a < b
-sizes-tell f a b h = lt-of-not-le (λ g. elim (eq-or-lt-of-le g) [ inl e ↦ lt-irrefl (sizeAt f b) (subst (λ (n : ℕ). sizeAt f n < sizeAt f b) (sym e) h) | inr l ↦ lt-irrefl (sizeAt f a) (lt-trans h (sizes-rise f b a l)) ])
+sizes-tell f a b h = lt-of-not-le (λ g. elim (eq-or-lt-of-le g) [
+  | inl e ↦ lt-irrefl (sizeAt f b) (subst (λ (n : ℕ). sizeAt f n < sizeAt f b) (sym e) h)
+  | inr l ↦ lt-irrefl (sizeAt f a) (lt-trans h (sizes-rise f b a l))
+])
 
 -- ---- from a value to its units
 
@@ -232,7 +237,8 @@ pattern-below f x F h =
     }
 
 -- with the value's own sign
-pub pattern-of : (f : Format) (s : Bool) (m : ℕ) (e : ℤ) → T (fits f (fin s m e)) → (b : ℕ) × (b < ones f * hid f) × (toBits f (fin s m e) ≡ cond s (top f) 0 + b) × HasValue (fin s m e) s (sizeAt f b) (2 ^ low f)
+pub pattern-of : (f : Format) (s : Bool) (m : ℕ) (e : ℤ) → T (fits f (fin s m e))
+    → (b : ℕ) × (b < ones f * hid f) × (toBits f (fin s m e) ≡ cond s (top f) 0 + b) × HasValue (fin s m e) s (sizeAt f b) (2 ^ low f)
 pattern-of f s m e F =
     let p = pattern-below f (fin s m e) F tt in
     (p .magnitude, p .small, p .written ∙ ap (λ (t : Bool). cond t (top f) 0 + p .magnitude) (sym (p .value .0)), (refl, p .value .1))
@@ -249,7 +255,10 @@ units-value f (fin s m e) F h =
 -- the pattern of a value that is not zero is not zero
 pub pattern-pos : (f : Format) (s : Bool) (m : ℕ) (e : ℤ) (b : ℕ) → HasValue (fin s (suc m) e) s (sizeAt f b) (2 ^ low f) → 0 < b
 pattern-pos f s m e b v = elim (eq-zero-or-pos b) [
-  | inl z ↦ absurd (lt-irrefl 0 (subst (λ (n : ℕ). 0 < n) (v .1 ∙ ap (λ (n : ℕ). n * down e) (ap (sizeAt f) z ∙ tiny f 0 (hid-pos f)) ∙ zero-mul (down e)) (mul-pos (mul-pos (zero-lt-suc m) (up-pos e)) (pow-pos (low f)))))
+  | inl z ↦
+      let none = v .1 ∙ ap (λ (n : ℕ). n * down e) (ap (sizeAt f) z ∙ tiny f 0 (hid-pos f)) ∙ zero-mul (down e) in
+      let some = mul-pos (mul-pos (zero-lt-suc m) (up-pos e)) (pow-pos (low f)) in
+      absurd (lt-irrefl 0 (subst (λ (n : ℕ). 0 < n) none some))
   | inr p ↦ p
 ]
 

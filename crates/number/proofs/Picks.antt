@@ -1,4 +1,5 @@
--- When equal values are the same, and which of its operands `minimum` or `maximum` is, by the tests that tell: less, greater, equal with a sign, or a NaN on either side. Assumes nothing.
+-- When equal values are the same, and which of its operands `minimum` or `maximum` is, by the tests that tell:
+-- less, greater, equal with a sign, or a NaN on either side. Assumes nothing.
 use mathlib.Core.Path.{_≡_, refl, sym, ap, _∙_}
 use mathlib.Core.Bool.{Bool, true, false, not, _&&_, _||_, cond}
 use Prim.Native.Nat.{ℕ, _*_, _≤_}
@@ -10,7 +11,8 @@ use lib.Ieee.{Float, nan, inf, fin, Format, up, down, lt, eq, isNan, fits}
 use lib.Ieee.Fits.{down-pos}
 use lib.Ieee.Bits.{is-true, is-false}
 use Rattle.number.specs.Leaves.{negative, countsBelow, minimum, maximum}
-use Rattle.number.proofs.Order.{holds, fails, number, nought, is-number, no-nan, lt-le, eq-le, eq-ge, eq-symmetric, le-number, lt-number, lt-not-le, le-antisymmetric, unordered}
+use Rattle.number.proofs.Order.{holds, fails, number, nought, is-number, no-nan, unordered}
+use Rattle.number.proofs.Order.{lt-le, eq-le, eq-ge, eq-symmetric, le-number, lt-number, lt-not-le, le-antisymmetric}
 use Rattle.number.proofs.Fractions.{plusOf, minusOf, AtMost, le→AtMost, AtMost→le}
 use Rattle.number.proofs.Extremes.{→upTo, same-value}
 
@@ -75,8 +77,12 @@ one-sign (inf s) (fin t k d) h n = absurd (unfold eq in h)
 one-sign (fin s m e) nan h n = absurd (unfold eq in h)
 one-sign (fin s m e) (inf t) h n = absurd (unfold eq in h)
 one-sign (fin true m e) (fin true k d) h n = refl
-one-sign (fin true m e) (fin false k d) h n = absurd (n (nothing true m e (le-of-mul-le-mul-right {k = down d} (omega (arith, le→AtMost (fin false k d) (fin true m e) tt tt (eq-ge (fin true m e) (fin false k d) h))) (down-pos d))))
-one-sign (fin false m e) (fin true k d) h n = absurd (n (nothing false m e (le-of-mul-le-mul-right {k = down d} (omega (arith, le→AtMost (fin false m e) (fin true k d) tt tt (eq-le (fin false m e) (fin true k d) h))) (down-pos d))))
+one-sign (fin true m e) (fin false k d) h n =
+    let upto = le→AtMost (fin false k d) (fin true m e) tt tt (eq-ge (fin true m e) (fin false k d) h) in
+    absurd (n (nothing true m e (le-of-mul-le-mul-right {k = down d} (omega (arith, upto)) (down-pos d))))
+one-sign (fin false m e) (fin true k d) h n =
+    let upto = le→AtMost (fin false m e) (fin true k d) tt tt (eq-le (fin false m e) (fin true k d) h) in
+    absurd (n (nothing false m e (le-of-mul-le-mul-right {k = down d} (omega (arith, upto)) (down-pos d))))
 one-sign (fin false m e) (fin false k d) h n = refl
 
 pub equal-but-zero : (f : Format) (x y : Float) → T (fits f x) → T (fits f y) → T (eq x y) → (T (eq x nought) → ⊥) → x ≡ y
@@ -121,7 +127,9 @@ minimum-more x y h = let n = lt-number y x (holds h) in second x y (countsBelow 
 
 pub minimum-negative : (x y : Float) → eq x y ≡ true → negative x ≡ true → x ≡ minimum x y
 unfolding minimum
-minimum-negative x y h s = first x y (countsBelow y x) (le-number x y (eq-le x y (holds h)) .0) (below-equal y x (is-true (eq y x) (eq-symmetric x y (holds h))) ∙ rw s (and-false (negative y)))
+minimum-negative x y h s =
+    let not-below : countsBelow y x ≡ false = below-equal y x (is-true (eq y x) (eq-symmetric x y (holds h))) ∙ rw s (and-false (negative y)) in
+    first x y (countsBelow y x) (le-number x y (eq-le x y (holds h)) .0) not-below
 
 pub minimum-other : (f : Format) (x y : Float) → T (fits f x) → T (fits f y) → eq x y ≡ true → negative x ≡ false → y ≡ minimum x y
 unfolding minimum

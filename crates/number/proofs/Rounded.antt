@@ -1,5 +1,5 @@
--- Each operation on finite values rounds a signed fraction, and rounding keeps the order of signed fractions (`rounds-mono`): so an operation keeps the order where its fractions do.
--- Assumes nothing.
+-- Each operation on finite values rounds a signed fraction, and rounding keeps the order of signed fractions (`rounds-mono`):
+-- so an operation keeps the order where its fractions do. Assumes nothing.
 use mathlib.Core.Path.{_≡_, refl, sym, ap, _∙_}
 use mathlib.Core.Logic.{_⊎_, inl, inr}
 use mathlib.Core.Bool.{Bool, true, false, not, _&&_, Bool·beq, cond}
@@ -145,12 +145,14 @@ sum-rounds f false a true b c = go (ltb a b) (ltb→lt a b) (nltb→le a b)
     go false h k = inl (omega (arith, k tt), ap (λ (z : ℕ). round f false z c) (omega arith))
 sum-rounds f true a false b c = go (ltb a b) (ltb b a) (ltb→lt a b) (nltb→le a b) (ltb→lt b a) (nltb→le b a)
   where
-    go : (t u : Bool) → (T t → a < b) → (T (not t) → b ≤ a) → (T u → b < a) → (T (not u) → a ≤ b) → Rounds f (cond t (round f false (b - a) c) (round f (true && u) (a - b) c)) (0 + b) (a + 0) c
+    go : (t u : Bool) → (T t → a < b) → (T (not t) → b ≤ a) → (T u → b < a) → (T (not u) → a ≤ b)
+        → Rounds f (cond t (round f false (b - a) c) (round f (true && u) (a - b) c)) (0 + b) (a + 0) c
     go true u h k l g = inl (omega (arith, h tt), ap (λ (z : ℕ). round f false z c) (omega arith))
     go false true h k l g = inr (omega (arith, k tt), ap (λ (z : ℕ). round f true z c) (omega arith))
     go false false h k l g = inl (omega (arith, k tt, g tt), ap (λ (z : ℕ). round f false z c) (omega (arith, k tt, g tt)))
 
-pub add-rounds : (f : Format) (x y : Float) → T (finite x) → T (finite y) → Rounds f (add f x y) (plusPart x * den y + plusPart y * den x) (minusPart x * den y + minusPart y * den x) (den x * den y)
+pub add-rounds : (f : Format) (x y : Float) → T (finite x) → T (finite y)
+    → Rounds f (add f x y) (plusPart x * den y + plusPart y * den x) (minusPart x * den y + minusPart y * den x) (den x * den y)
 unfolding add
 add-rounds f nan y p q = absurd p
 add-rounds f (inf s) y p q = absurd p
@@ -158,7 +160,8 @@ add-rounds f (fin s m e) nan p q = absurd q
 add-rounds f (fin s m e) (inf t) p q = absurd q
 add-rounds f (fin s m e) (fin t n d) p q = simp (plus-times, minus-times) (sum-rounds f s (m * up e * down d) t (n * up d * down e) (down e * down d))
 
-pub mul-rounds : (f : Format) (x y : Float) → T (finite x) → T (finite y) → Rounds f (mul f x y) (plusPart x * plusPart y + minusPart x * minusPart y) (plusPart x * minusPart y + minusPart x * plusPart y) (den x * den y)
+pub mul-rounds : (f : Format) (x y : Float) → T (finite x) → T (finite y)
+    → Rounds f (mul f x y) (plusPart x * plusPart y + minusPart x * minusPart y) (plusPart x * minusPart y + minusPart x * plusPart y) (den x * den y)
 unfolding mul
 mul-rounds f nan y p q = absurd p
 mul-rounds f (inf s) y p q = absurd p
@@ -171,10 +174,13 @@ mul-rounds f (fin true m e) (fin true n d) p q = inl (omega arith, ap (λ (z : �
 
 div-is : (f : Format) (s : Bool) (m : ℕ) (e : ℤ) (n : ℕ) (d : ℤ) → 0 < n → div f (fin s m e) (fin false n d) ≡ round f (unlike s false) (m * up e * down d) (n * up d * down e)
 unfolding div
-div-is f s m e n d N = ap (λ (b : Bool). cond b (cond (eqb m 0) nan (inf (unlike s false))) (round f (unlike s false) (m * up e * down d) (n * up d * down e))) (ne-eqb n 0 (λ z. omega arith))
+div-is f s m e n d N =
+    ap (λ (b : Bool). cond b (cond (eqb m 0) nan (inf (unlike s false))) (round f (unlike s false) (m * up e * down d) (n * up d * down e)))
+    (ne-eqb n 0 (λ z. omega arith))
 
 -- by a value above zero
-pub div-rounds : (f : Format) (x : Float) (n : ℕ) (d : ℤ) → T (finite x) → 0 < n → Rounds f (div f x (fin false n d)) (plusPart x * down d) (minusPart x * down d) (n * up d * den x)
+pub div-rounds : (f : Format) (x : Float) (n : ℕ) (d : ℤ) → T (finite x) → 0 < n
+    → Rounds f (div f x (fin false n d)) (plusPart x * down d) (minusPart x * down d) (n * up d * den x)
 div-rounds f nan n d p N = absurd p
 div-rounds f (inf s) n d p N = absurd p
 div-rounds f (fin false m e) n d p N = inl (omega arith, div-is f false m e n d N ∙ ap (λ (z : ℕ). round f false z (n * up d * down e)) (omega arith))

@@ -1,5 +1,5 @@
--- What the tests of one value's size say. What is finite, taken from itself, leaves zero. The absolute value is the greater of the value and of what it leaves of +0. The whole part is 0 below 1,
--- and 2 ^ w - 1 from 2 ^ w up. Assumes nothing.
+-- What the tests of one value's size say. What is finite, taken from itself, leaves zero. The absolute value is the greater of
+-- the value and of what it leaves of +0. The whole part is 0 below 1, and 2 ^ w - 1 from 2 ^ w up. Assumes nothing.
 use mathlib.Core.Path.{_≡_, refl, sym, ap, _∙_}
 use mathlib.Core.Logic.{inl, inr}
 use mathlib.Core.Bool.{Bool, true, false, not, _&&_, true≢false, false≢true}
@@ -16,7 +16,8 @@ use lib.Ieee.Scale.{finite}
 use Rattle.number.specs.Leaves.{absolute}
 use Rattle.number.proofs.Patterns.{round-self}
 use Rattle.number.proofs.Fractions.{plusOf, minusOf, le→AtMost, AtMost→le, lt→Below, Below→lt}
-use Rattle.number.proofs.Order.{below-zero, holds, fails, number, nought, eq-le, eq-ge, le-transitive, le-antisymmetric, lt-not-le, le-lt-transitive, le-number, greatest, no-less, not-infinite, lt-or-le}
+use Rattle.number.proofs.Order.{below-zero, holds, fails, number, nought, greatest, no-less, not-infinite}
+use Rattle.number.proofs.Order.{eq-le, eq-ge, le-transitive, le-antisymmetric, lt-not-le, le-lt-transitive, le-number, lt-or-le}
 use Rattle.number.proofs.Monotone.{sub-number, sub-turns}
 use Rattle.number.proofs.Rounded.{Rounds, zero-equals, sum-rounds}
 
@@ -31,7 +32,10 @@ none-left f x p n d D h (inr (a, e)) = rw (e, sub-zero n p (sym h)) (zero-equals
 
 finite-leaves : (f : Format) (s : Bool) (m : ℕ) (e : ℤ) → T (eq (sub f (fin s m e) (fin s m e)) nought)
 unfolding sub
-finite-leaves f s m e = let a = m * up e * down e in let d = down e * down e in none-left f (sum f s a (not s) a d) _ _ d (mul-pos (down-pos e) (down-pos e)) (go s a) (sum-rounds f s a (not s) a d)
+finite-leaves f s m e =
+    let a = m * up e * down e in
+    let d = down e * down e in
+    none-left f (sum f s a (not s) a d) _ _ d (mul-pos (down-pos e) (down-pos e)) (go s a) (sum-rounds f s a (not s) a d)
   where
     go : (s : Bool) (a : ℕ) → plusOf s a + plusOf (not s) a ≡ minusOf s a + minusOf (not s) a
     go true a = omega arith
@@ -62,7 +66,10 @@ both-finite-test f (inf false) y = refl
 both-finite-test f (fin s m e) nan = no-equal (sub f (fin s m e) (fin s m e))
 both-finite-test f (fin s m e) (inf true) = no-equal (sub f (fin s m e) (fin s m e))
 both-finite-test f (fin s m e) (inf false) = no-equal (sub f (fin s m e) (fin s m e))
-both-finite-test f (fin s m e) (fin t n d) = is-true (eq (sub f (fin s m e) (fin s m e)) (sub f (fin t n d) (fin t n d))) (zeros-equal (sub f (fin s m e) (fin s m e)) (sub f (fin t n d) (fin t n d)) (finite-leaves f s m e) (finite-leaves f t n d))
+both-finite-test f (fin s m e) (fin t n d) =
+    let x = sub f (fin s m e) (fin s m e) in
+    let y = sub f (fin t n d) (fin t n d) in
+    is-true (eq x y) (zeros-equal x y (finite-leaves f s m e) (finite-leaves f t n d))
 
 -- ---- the absolute value, by what the value leaves of +0
 
@@ -83,14 +90,18 @@ leaves-size f m e F = opened f true m e ∙ ap (λ (n : ℕ). round f false n (d
 leaves-zero : (f : Format) (e : ℤ) → T (fits f (fin false 0 e)) → sub f nought (fin false 0 e) ≡ fin false 0 e
 unfolding sum
 leaves-zero f e F =
-    opened f false 0 e ∙ ap (λ (n : ℕ). sum f false 0 true n (down e)) (zero-mul (up e)) ∙ ap (λ (n : ℕ). round f false n (down e)) (sym (zero-mul (up e))) ∙ round-self f false 0 e F
+    opened f false 0 e
+    ∙ ap (λ (n : ℕ). sum f false 0 true n (down e)) (zero-mul (up e))
+    ∙ ap (λ (n : ℕ). round f false n (down e)) (sym (zero-mul (up e)))
+    ∙ round-self f false 0 e F
 
 -- a positive value leaves no more than zero, which is less
 leaves-less : (f : Format) (m : ℕ) (e : ℤ) → T (lt (sub f nought (fin false (suc m) e)) (fin false (suc m) e))
 leaves-less f m e =
     let x = fin false (suc m) e in
     le-lt-transitive (sub f nought x) nought x
-    (rw (leaves-zero f (pos 0) (unfold fits in tt)) at (sub-turns f nought nought x (sub-number f nought nought tt tt) (sub-number f nought x tt tt) (AtMost→le nought x tt tt (omega arith))))
+    (rw (leaves-zero f (pos 0) (unfold fits in tt)) at
+    (sub-turns f nought nought x (sub-number f nought nought tt tt) (sub-number f nought x tt tt) (AtMost→le nought x tt tt (omega arith))))
     (Below→lt nought x tt tt (omega (arith, mul-pos (zero-lt-suc m) (up-pos e))))
 
 pub absolute-kept : (f : Format) (x : Float) → T (fits f x) → lt (sub f nought x) x ≡ true → x ≡ absolute x

@@ -1,4 +1,5 @@
--- The size of a value, counted in the format's smallest positive value: a unit is 2 ^ -low, 2 ^ -1074 for a double. Every finite value that a format holds is a whole number of units.
+-- The size of a value, counted in the format's smallest positive value: a unit is 2 ^ -low, 2 ^ -1074 for a double.
+-- Every finite value that a format holds is a whole number of units.
 use Prim.Native.Nat.{ℕ, _*_, _/_, _^_}
 use lib.Ieee.{Float, nan, inf, fin, Format, low, up, down}
 

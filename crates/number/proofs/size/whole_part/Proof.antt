@@ -9,7 +9,10 @@ use Rattle.number.proofs.size.whole_part.Tie as tie
 
 truncating-f64-to-u64-requires : tie.Need-truncating-f64-to-u64-requires
 unfolding ofBits
-truncating-f64-to-u64-requires c κs = (lt-le-transitive (fin true 1 (pos 0)) (power 0) (c .before .before .args .x) (unfold lt in tt) (holds (c .before .if1 .taken)), holds (c .if2 .taken))
+truncating-f64-to-u64-requires c κs = (
+  lt-le-transitive (fin true 1 (pos 0)) (power 0) (c .before .before .args .x) (unfold lt in tt) (holds (c .before .if1 .taken)),
+  holds (c .if2 .taken),
+)
 
 returns : tie.Need-returns
 returns c = c .truncating-f64-to-u64 .ensures

@@ -38,7 +38,8 @@ float-to-bits-result-2 : tie.Need-float-to-bits-result-2
 unfolding ofBits neg div
 float-to-bits-result-2 c = not-nan _ (lt-number (inf true) _ (holds (c .if3 .taken)) .1)
 
-below : (c : lts.Then3 reads.Pre reads.Post) → (toBits binary64 (c .before .before .before .args .x) + 1 < 2 ^ 64) × Down binary64 (c .before .before .before .args .x) (toBits binary64 (c .before .before .before .args .x) + 1)
+below : (c : lts.Then3 reads.Pre reads.Post) → (toBits binary64 (c .before .before .before .args .x) + 1 < 2 ^ 64)
+    × Down binary64 (c .before .before .before .args .x) (toBits binary64 (c .before .before .before .args .x) + 1)
 unfolding ofBits neg div
 below c =
     down-below binary64 _ (holds (c .before .before .before .good .0 .1)) (fails (c .before .before .if1 .left)) (fails (c .before .if2 .left)) (holds (c .if3 .taken))
