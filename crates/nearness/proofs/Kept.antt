@@ -46,7 +46,8 @@ multiple : (p k d : ℕ) → 0 < p → 2 ^ (p - 1 + k) ≤ d → Held p d → (q
 multiple p k d P h x =
     let q = x .0 in
     let j = x .1 in
-    let l : 2 ^ (p - 1 + k) < 2 ^ (p + j) = lt-of-le-of-lt h (subst (λ (z : ℕ). z < 2 ^ (p + j)) (sym (x .3)) (subst (λ (z : ℕ). q * 2 ^ j < z) (sym (pow-add 2 p j)) (mul-lt-mul-of-pos-right (x .2) (pow-pos j)))) in
+    let under : q * 2 ^ j < 2 ^ (p + j) = subst (λ (z : ℕ). q * 2 ^ j < z) (sym (pow-add 2 p j)) (mul-lt-mul-of-pos-right (x .2) (pow-pos j)) in
+    let l : 2 ^ (p - 1 + k) < 2 ^ (p + j) = lt-of-le-of-lt h (subst (λ (z : ℕ). z < 2 ^ (p + j)) (sym (x .3)) under) in
     let m : p - 1 + k < p + j = lt-of-not-le (λ (g : p + j ≤ p - 1 + k). not-le-of-lt l (pow-mono g)) in
     let e : j - k + k ≡ j = omega arith in
     (q * 2 ^ (j - k), x .3 ∙ ap (λ (z : ℕ). q * 2 ^ z) (sym e) ∙ ap (λ (z : ℕ). q * z) (pow-add 2 (j - k) k) ∙ sym (mul-assoc q (2 ^ (j - k)) (2 ^ k)))
@@ -92,7 +93,8 @@ module _ (p n den : ℕ) (P : 0 < p) (D : 0 < den) where
   pub full-kept : 0 < drop p n den → 2 ^ (p - 1) ≤ kept p n den
   full-kept K =
       let k = drop p n den in
-      le-trans (le-div-iff-mul-le (mul-pos D (pow-pos k)) .1 (le-trans (le-of-eq (omega (arith, ap (λ (z : ℕ). z * den) (pow-add 2 (p - 1) k)))) (full K))) (nearest-ge (n / (den * 2 ^ k)) (compare (n % (den * 2 ^ k) * 2) (den * 2 ^ k)))
+      let few : 2 ^ (p - 1) * (den * 2 ^ k) ≤ n = le-trans (le-of-eq (omega (arith, ap (λ (z : ℕ). z * den) (pow-add 2 (p - 1) k)))) (full K) in
+      le-trans (le-div-iff-mul-le (mul-pos D (pow-pos k)) .1 few) (nearest-ge (n / (den * 2 ^ k)) (compare (n % (den * 2 ^ k) * 2) (den * 2 ^ k)))
 
   -- with none dropped, every number is a multiple
   by-multiple : (d : ℕ) → Held p d → (drop p n den ≡ 0) ⊎ (2 ^ (p - 1 + drop p n den) ≤ d) → (q : ℕ) × (d ≡ q * 2 ^ drop p n den)
@@ -105,12 +107,20 @@ module _ (p n den : ℕ) (P : 0 < p) (D : 0 < den) where
       let u = 2 ^ k in
       let q = kept p n den in
       let big : (k ≡ 0) ⊎ (2 ^ (p - 1 + k) ≤ d) =
-      ⊎-elim (λ (e : k ≡ 0). inl e) (λ (K : 0 < k). inr (le-trans (le-of-eq (pow-add 2 (p - 1) k)) (le-trans (mul-le-mul-right u (full-kept K)) (le-of-lt h)))) (eq-zero-or-pos k) in
+      ⊎-elim
+      (λ (e : k ≡ 0). inl e)
+      (λ (K : 0 < k). inr (le-trans (le-of-eq (pow-add 2 (p - 1) k)) (le-trans (mul-le-mul-right u (full-kept K)) (le-of-lt h))))
+      (eq-zero-or-pos k) in
       let c = by-multiple d x big in
       over n den u q d unit (subst (λ (z : ℕ). q * u + u ≤ z) (sym (c .1)) (step-up (c .0) q u (subst (λ (z : ℕ). q * u < z) (c .1) h)))
 
   pub nearest-below : (d : ℕ) → Held p d → d < result → ((result + d) * den ≤ 2 * n) × (2 * n ≡ (result + d) * den → kept p n den % 2 ≡ 0)
-  nearest-below d x h = ⊎-elim (λ (e : drop p n den ≡ 0). multiple-below (by-multiple d x (inl e))) (λ (K : 0 < drop p n den). go K (ltb d (2 ^ (p - 1 + drop p n den))) (ltb→lt d (2 ^ (p - 1 + drop p n den))) (nltb→le d (2 ^ (p - 1 + drop p n den)))) (eq-zero-or-pos (drop p n den))
+  nearest-below d x h =
+      let low = 2 ^ (p - 1 + drop p n den) in
+      ⊎-elim
+      (λ (e : drop p n den ≡ 0). multiple-below (by-multiple d x (inl e)))
+      (λ (K : 0 < drop p n den). go K (ltb d low) (ltb→lt d low) (nltb→le d low))
+      (eq-zero-or-pos (drop p n den))
     where
       multiple-below : (q : ℕ) × (d ≡ q * 2 ^ drop p n den) → ((result + d) * den ≤ 2 * n) × (2 * n ≡ (result + d) * den → kept p n den % 2 ≡ 0)
       multiple-below c =
@@ -118,7 +128,8 @@ module _ (p n den : ℕ) (P : 0 < p) (D : 0 < den) where
           let q = kept p n den in
           under n den u q d unit (subst (λ (z : ℕ). z + u ≤ q * u) (sym (c .1)) (step-up q (c .0) u (subst (λ (z : ℕ). z < q * u) (c .1) h)))
 
-      at-least : 0 < drop p n den → d < 2 ^ (p - 1 + drop p n den) → (2 ^ (p - 1) ≡ kept p n den) ⊎ (2 ^ (p - 1) < kept p n den) → ((result + d) * den ≤ 2 * n) × (2 * n ≡ (result + d) * den → kept p n den % 2 ≡ 0)
+      at-least : 0 < drop p n den → d < 2 ^ (p - 1 + drop p n den) → (2 ^ (p - 1) ≡ kept p n den) ⊎ (2 ^ (p - 1) < kept p n den)
+          → ((result + d) * den ≤ 2 * n) × (2 * n ≡ (result + d) * den → kept p n den % 2 ≡ 0)
       at-least K l (inl e) =
           let s : 2 ^ (p - 1 + drop p n den) ≡ result = pow-add 2 (p - 1) (drop p n den) ∙ ap (λ (z : ℕ). z * 2 ^ drop p n den) e in
           let r = under-exact n den result d D (subst (λ (z : ℕ). z * den ≤ n) s (full K)) h in
@@ -130,7 +141,8 @@ module _ (p n den : ℕ) (P : 0 < p) (D : 0 < den) where
           let b = pow-add 2 (p - 1) (drop p n den) in
           under n den u q d unit (omega arith)
 
-      go : 0 < drop p n den → (b : Bool) → (T b → d < 2 ^ (p - 1 + drop p n den)) → (T (not b) → 2 ^ (p - 1 + drop p n den) ≤ d) → ((result + d) * den ≤ 2 * n) × (2 * n ≡ (result + d) * den → kept p n den % 2 ≡ 0)
+      go : 0 < drop p n den → (b : Bool) → (T b → d < 2 ^ (p - 1 + drop p n den)) → (T (not b) → 2 ^ (p - 1 + drop p n den) ≤ d)
+          → ((result + d) * den ≤ 2 * n) × (2 * n ≡ (result + d) * den → kept p n den % 2 ≡ 0)
       go K true a b = at-least K (a tt) (eq-or-lt-of-le (full-kept K))
       go K false a b = multiple-below (by-multiple d x (inr (b tt)))
 
@@ -139,7 +151,8 @@ odd-top : (p : ℕ) → 0 < p → (2 ^ p - 1) % 2 ≡ 1
 odd-top p P = let e = half-pow p P in let h = pow-pos (p - 1) in omega arith
 
 -- q * 2 ^ k lies from M up to below O: then it is M
-at-top : (p K q k : ℕ) → 2 ≤ p → q ≤ 2 ^ p → (0 < k → 2 ^ (p - 1) ≤ q) → (2 ^ p - 1) * 2 ^ K ≤ q * 2 ^ k → q * 2 ^ k < 2 ^ p * 2 ^ K → (q * 2 ^ k ≡ (2 ^ p - 1) * 2 ^ K) × (q % 2 ≡ 1)
+at-top : (p K q k : ℕ) → 2 ≤ p → q ≤ 2 ^ p → (0 < k → 2 ^ (p - 1) ≤ q)
+    → (2 ^ p - 1) * 2 ^ K ≤ q * 2 ^ k → q * 2 ^ k < 2 ^ p * 2 ^ K → (q * 2 ^ k ≡ (2 ^ p - 1) * 2 ^ K) × (q % 2 ≡ 1)
 at-top p K q k P Q F lo hi = go (compare k K) (cmp k K)
   where
     split : (a b : ℕ) → a < b → 2 ^ b ≡ 2 * 2 ^ (b - suc a) * 2 ^ a
@@ -151,7 +164,8 @@ at-top p K q k P Q F lo hi = go (compare k K) (cmp k K)
     go : (o : Ordering) → Cmp o k K → (q * 2 ^ k ≡ (2 ^ p - 1) * 2 ^ K) × (q % 2 ≡ 1)
     go Ordering·lt l =
         let t = 2 ^ (K - suc k) in
-        let a : (2 ^ p - 1) * (2 * t) ≤ q = le-of-mul-le-mul-right {k = 2 ^ k} (le-trans (le-of-eq (mul-assoc (2 ^ p - 1) (2 * t) (2 ^ k) ∙ ap (λ (x : ℕ). (2 ^ p - 1) * x) (sym (split k K l)))) lo) (pow-pos k) in
+        let parted = mul-assoc (2 ^ p - 1) (2 * t) (2 ^ k) ∙ ap (λ (x : ℕ). (2 ^ p - 1) * x) (sym (split k K l)) in
+        let a : (2 ^ p - 1) * (2 * t) ≤ q = le-of-mul-le-mul-right {k = 2 ^ k} (le-trans (le-of-eq parted) lo) (pow-pos k) in
         let b : (2 ^ p - 1) * 2 ≤ (2 ^ p - 1) * (2 * t) = mul-le-mul-left (2 ^ p - 1) (omega (arith, pow-pos (K - suc k))) in
         let c : 2 ^ 2 ≤ 2 ^ p = pow-mono P in
         absurd (omega arith)

@@ -79,9 +79,13 @@ further : (r d t : ℕ) → r < d → r + t < t + d
 further r d t h = omega arith
 
 -- Two nearest values have one size. Between two that are apart lies a third, which one of them would have to be nearer than; or they are neighbours, and both even.
-module _ (f : Format) (s : Bool) (v : Size) (O : Ordered v) (x y : Float) (F : T (fits f x)) (G : T (fits f y)) (H : T (finite x)) (K : T (finite y)) (a : Written f s x) (b : Written f s y) (p : Closest f v x) (q : Closest f v y) where
+module _ (f : Format) (s : Bool) (v : Size) (O : Ordered v) (x y : Float) (F : T (fits f x)) (G : T (fits f y)) (H : T (finite x)) (K : T (finite y))
+    (a : Written f s x) (b : Written f s y) (p : Closest f v x) (q : Closest f v y) where
   not-apart : unitsOf f x < unitsOf f y → ⊥
-  not-apart l = ⊎-elim neighbours between (eq-or-lt-of-le (rises f (a .at) (b .at) (subst (λ (k : ℕ). k < sizeAt f (b .at)) (a .size) (subst (λ (k : ℕ). unitsOf f x < k) (b .size) l))))
+  not-apart l =
+      let written-y : unitsOf f x < sizeAt f (b .at) = subst (λ (k : ℕ). unitsOf f x < k) (b .size) l in
+      let written : sizeAt f (a .at) < sizeAt f (b .at) = subst (λ (k : ℕ). k < sizeAt f (b .at)) (a .size) written-y in
+      ⊎-elim neighbours between (eq-or-lt-of-le (rises f (a .at) (b .at) written))
     where
       most : v .atMost (unitsOf f x + unitsOf f y)
       most = p .above y G K l
@@ -107,9 +111,12 @@ module _ (f : Format) (s : Bool) (v : Size) (O : Ordered v) (x y : Float) (F : T
           let C : c < ones f * hid f = omega (arith, b .small) in
           let z = ofBits f (cond s (top f) 0 + c) in
           let size = units-of-pattern f s c C in
-          let over : unitsOf f x < unitsOf f z = subst (λ (k : ℕ). k < unitsOf f z) (sym (a .size)) (subst (λ (k : ℕ). sizeAt f (a .at) < k) (sym size) (sizes-rise f (a .at) c (omega arith))) in
-          let under : unitsOf f z < unitsOf f y = subst (λ (k : ℕ). k < unitsOf f y) (sym size) (subst (λ (k : ℕ). sizeAt f c < k) (sym (b .size)) (sizes-rise f c (b .at) h)) in
-          O (unitsOf f x + unitsOf f y) (unitsOf f y + unitsOf f z) (further (unitsOf f x) (unitsOf f z) (unitsOf f y) over) most (q .below z (ofBits-fits f (cond s (top f) 0 + c)) (finite-at f s c C) under)
+          let over : unitsOf f x < unitsOf f z =
+          subst (λ (k : ℕ). k < unitsOf f z) (sym (a .size)) (subst (λ (k : ℕ). sizeAt f (a .at) < k) (sym size) (sizes-rise f (a .at) c (omega arith))) in
+          let under : unitsOf f z < unitsOf f y =
+          subst (λ (k : ℕ). k < unitsOf f y) (sym size) (subst (λ (k : ℕ). sizeAt f c < k) (sym (b .size)) (sizes-rise f c (b .at) h)) in
+          O (unitsOf f x + unitsOf f y) (unitsOf f y + unitsOf f z) (further (unitsOf f x) (unitsOf f z) (unitsOf f y) over) most
+          (q .below z (ofBits-fits f (cond s (top f) 0 + c)) (finite-at f s c C) under)
 
 -- ---- the theorem
 module _ (f : Format) (s : Bool) (v : Size) (O : Ordered v) where
@@ -117,9 +124,13 @@ module _ (f : Format) (s : Bool) (v : Size) (O : Ordered v) where
   of-sign x y F G H K a b p q = go (compare (a .at) (b .at)) (cmp (a .at) (b .at))
     where
       go : (o : Ordering) → Cmp o (a .at) (b .at) → x ≡ y
-      go Ordering·lt l = absurd (not-apart f s v O x y F G H K a b p q (subst (λ (k : ℕ). k < unitsOf f y) (sym (a .size)) (subst (λ (k : ℕ). sizeAt f (a .at) < k) (sym (b .size)) (sizes-rise f (a .at) (b .at) l))))
+      go Ordering·lt l =
+          let less : sizeAt f (a .at) < unitsOf f y = subst (λ (k : ℕ). sizeAt f (a .at) < k) (sym (b .size)) (sizes-rise f (a .at) (b .at) l) in
+          absurd (not-apart f s v O x y F G H K a b p q (subst (λ (k : ℕ). k < unitsOf f y) (sym (a .size)) less))
       go Ordering·eq e = sym (a .reads) ∙ ap (λ (k : ℕ). ofBits f (cond s (top f) 0 + k)) e ∙ b .reads
-      go Ordering·gt g = absurd (not-apart f s v O y x G F K H b a q p (subst (λ (k : ℕ). k < unitsOf f x) (sym (b .size)) (subst (λ (k : ℕ). sizeAt f (b .at) < k) (sym (a .size)) (sizes-rise f (b .at) (a .at) g))))
+      go Ordering·gt g =
+          let less : sizeAt f (b .at) < unitsOf f x = subst (λ (k : ℕ). sizeAt f (b .at) < k) (sym (a .size)) (sizes-rise f (b .at) (a .at) g) in
+          absurd (not-apart f s v O y x G F K H b a q p (subst (λ (k : ℕ). k < unitsOf f x) (sym (b .size)) less))
 
   signed : (t : Bool) (m : ℕ) (e : ℤ) → t ≡ s → T (fits f (fin t m e)) → Written f s (fin t m e)
   signed t m e h F = subst (λ (b : Bool). Written f b (fin t m e)) h (written f t m e F)

@@ -2,7 +2,8 @@
 use mathlib.Core.Path.{_≡_, refl, sym, ap, _∙_, subst}
 use mathlib.Core.Logic.{_⊎_, inl, inr, ⊎-elim}
 use Prim.Native.Nat.{ℕ, zero, suc, _+_, _-_, _*_, _/_, _%_, _^_, _≤_, _<_, compare, Ordering, Ordering·lt, Ordering·eq, Ordering·gt}
-use native.Mathlib.Nat.{zero-div, suc-mul, le-trans, le-of-eq, le-antisymm, lt-of-le-of-lt, not-le-of-lt, mul-one, mul-assoc, pow-succ', zero-mul, div-one, mul-div-cancel, eq-zero-or-pos, mul-le-mul-right}
+use native.Mathlib.Nat.{le-trans, le-of-eq, le-antisymm, lt-of-le-of-lt, not-le-of-lt, eq-zero-or-pos, mul-le-mul-right}
+use native.Mathlib.Nat.{zero-div, suc-mul, mul-one, mul-assoc, pow-succ', zero-mul, div-one, mul-div-cancel}
 use native.Mathlib.Omega.{arith}
 use mathlib.Core.Bool.{Bool, true, false, not, _&&_, cond}
 use borrow.Author.Tests.{le-ltb}
@@ -27,12 +28,13 @@ held-at : (p l m : ℕ) (e : ℤ) → m < 2 ^ p → down e ≤ 2 ^ l → Held p 
 held-at p l m (pos a) h g = (m, a + l, h, div-one (m * 2 ^ a * 2 ^ l) ∙ mul-assoc m (2 ^ a) (2 ^ l) ∙ ap (λ (x : ℕ). m * x) (sym (pow-add 2 a l)))
 held-at p l m (negsuc a) h g =
     let k = pow-le-back (suc a) l g in
-    let e : l - suc a + suc a ≡ l = omega arith in (
+    let e : l - suc a + suc a ≡ l = omega arith in
+    let parted : 2 ^ l ≡ 2 ^ (l - suc a) * 2 ^ suc a = ap (λ (x : ℕ). 2 ^ x) (sym e) ∙ pow-add 2 (l - suc a) (suc a) in
+    let whole = ap (λ (x : ℕ). x * 2 ^ l) (mul-one m) ∙ ap (λ (x : ℕ). m * x) parted ∙ sym (mul-assoc m (2 ^ (l - suc a)) (2 ^ suc a)) in (
       m,
       l - suc a,
       h,
-      ap (λ (x : ℕ). x / 2 ^ suc a) (ap (λ (x : ℕ). x * 2 ^ l) (mul-one m) ∙ ap (λ (x : ℕ). m * x) (ap (λ (x : ℕ). 2 ^ x) (sym e) ∙ pow-add 2 (l - suc a) (suc a)) ∙ sym (mul-assoc m (2 ^ (l - suc a)) (2 ^ suc a)))
-          ∙ mul-div-cancel (m * 2 ^ (l - suc a)) (pow-pos (suc a)),
+      ap (λ (x : ℕ). x / 2 ^ suc a) whole ∙ mul-div-cancel (m * 2 ^ (l - suc a)) (pow-pos (suc a)),
     )
 
 nothing : (p d : ℕ) → d ≡ 0 → Held p d
@@ -51,7 +53,8 @@ held f (fin s (suc m) e) t =
     let b = ltb (suc m) (2 ^ prec f) in
     let c = leb (down e) (2 ^ low f) in
     let d = ltb (suc m * up e) (2 ^ suc (emax f) * down e) in
-    held-at (prec f) (low f) (suc m) e (ltb→lt (suc m) (2 ^ prec f) (and-r a b (and-l (a && b) c (and-l (a && b && c) d t)))) (leb→le (down e) (2 ^ low f) (and-r (a && b) c (and-l (a && b && c) d t)))
+    let three = and-l (a && b && c) d t in
+    held-at (prec f) (low f) (suc m) e (ltb→lt (suc m) (2 ^ prec f) (and-r a b (and-l (a && b) c three))) (leb→le (down e) (2 ^ low f) (and-r (a && b) c three))
 
 -- ---- the limit: twice the point half way between the largest number of p digits and the one after it
 limit-at : (p K a b : ℕ) → 0 < K → a ≡ p + K → suc b ≡ K → 2 * (2 ^ a - 2 ^ b) ≡ (2 ^ p - 1) * 2 ^ K + 2 ^ p * 2 ^ K
@@ -174,7 +177,10 @@ module _ (f : Format) (s : Bool) (num den : ℕ) (D : 0 < den) where
   -- below the limit the result is finite, and from the limit on it is not
   under-limit : q * 2 ^ d < overflow f → limit f * den ≤ 2 * (num * 2 ^ low f) → ⊥
   unfolding q d
-  under-limit h l = not-le-of-lt h (subst (λ (x : ℕ). x ≤ q * 2 ^ d) (overflow-is f) (from-half (prec f) (top-digits f) (num * 2 ^ low f) den (two f) D (subst (λ (x : ℕ). x * den ≤ 2 * (num * 2 ^ low f)) (limit-is f) l)))
+  under-limit h l =
+      let half-way = subst (λ (x : ℕ). x * den ≤ 2 * (num * 2 ^ low f)) (limit-is f) l in
+      let over = from-half (prec f) (top-digits f) (num * 2 ^ low f) den (two f) D half-way in
+      not-le-of-lt h (subst (λ (x : ℕ). x ≤ q * 2 ^ d) (overflow-is f) over)
 
   from-limit : overflow f ≤ q * 2 ^ d → limit f * den ≤ 2 * (num * 2 ^ low f)
   unfolding q d
@@ -184,17 +190,23 @@ module _ (f : Format) (s : Bool) (num den : ℕ) (D : 0 < den) where
       n = num * 2 ^ low f
 
       go : (b : Bool) → (T b → 2 * n < limit f * den) → (T (not b) → limit f * den ≤ 2 * n) → limit f * den ≤ 2 * n
-      go true l g = absurd (not-le-of-lt (subst (λ (x : ℕ). q * 2 ^ d < x) (overflow-is f) (below-half (prec f) (top-digits f) n den (two f) D (subst (λ (x : ℕ). 2 * n < x * den) (limit-is f) (l tt)))) h)
+      go true l g =
+          let half-way = subst (λ (x : ℕ). 2 * n < x * den) (limit-is f) (l tt) in
+          let below = below-half (prec f) (top-digits f) n den (two f) D half-way in
+          absurd (not-le-of-lt (subst (λ (x : ℕ). q * 2 ^ d < x) (overflow-is f) below) h)
       go false l g = g tt
 
   pub round-nearest : Nearest f s (fraction f num den) (round f s num den)
   unfolding q d v
-  round-nearest = subst (λ (x : Float). Nearest f s v x) (sym (round-is f s num den)) (go (ltb (q * 2 ^ d) (overflow f)) (ltb→lt (q * 2 ^ d) (overflow f)) (nltb→le (q * 2 ^ d) (overflow f)))
+  round-nearest =
+      subst (λ (x : Float). Nearest f s v x) (sym (round-is f s num den))
+      (go (ltb (q * 2 ^ d) (overflow f)) (ltb→lt (q * 2 ^ d) (overflow f)) (nltb→le (q * 2 ^ d) (overflow f)))
     where
       go : (b : Bool) → (T b → q * 2 ^ d < overflow f) → (T (not b) → overflow f ≤ q * 2 ^ d) → Nearest f s v (units f s q d)
       go true l g =
           let h = l tt in
-          nearest-of f s v (q * 2 ^ d) (units f s q d) (units-val f s q d h) (subst (λ (x : Float). T (fits f x)) (round-is f s num den) (round-fits f s num den)) (under-limit h) (at-units h)
+          let fit = subst (λ (x : Float). T (fits f x)) (round-is f s num den) (round-fits f s num den) in
+          nearest-of f s v (q * 2 ^ d) (units f s q d) (units-val f s q d h) fit (under-limit h) (at-units h)
       go false l g = subst (λ (x : Float). Nearest f s v x) (sym (infinite (g tt))) (refl, from-limit (g tt))
 
 -- ---- two ways to say the same size

@@ -2,7 +2,8 @@
 use mathlib.Core.Path.{_≡_, refl, sym, ap, ap₂, _∙_, subst}
 use mathlib.Core.Logic.{_⊎_, inl, inr, ⊎-elim}
 use Prim.Native.Nat.{ℕ, suc, _+_, _-_, _*_, _/_, _%_, _^_, _≤_, _<_, compare}
-use native.Mathlib.Nat.{eq-or-lt-of-le, le-trans, le-of-eq, le-refl, not-le-of-lt, mul-assoc, mul-left-comm, mul-one, add-assoc, mul-pos, mul-le-mul-right, mul-lt-mul-of-pos-right, pow-succ', mul-div-cancel, le-div-iff-mul-le, le-of-mul-le-mul-right}
+use native.Mathlib.Nat.{eq-or-lt-of-le, le-trans, le-of-eq, le-refl, not-le-of-lt, le-div-iff-mul-le, le-of-mul-le-mul-right}
+use native.Mathlib.Nat.{mul-assoc, mul-left-comm, mul-one, add-assoc, mul-pos, mul-le-mul-right, mul-lt-mul-of-pos-right, pow-succ', mul-div-cancel}
 use native.Mathlib.Omega.{arith}
 use mathlib.Core.Bool.{Bool, true, false, not, cond}
 use lib.Dec.{T, ltb, ltb→lt, nltb→le}
@@ -38,7 +39,8 @@ drop-of p q d P h (inl e) =
 drop-of p q d P h (inr g) =
     let lo : 2 ^ (p - 1 + d) ≤ q * 2 ^ d = le-trans (le-of-eq (pow-add 2 (p - 1) d)) (mul-le-mul-right (2 ^ d) g) in
     let up' : suc (p - 1 + d) ≡ p + d = omega arith in
-    let hi : q * 2 ^ d < 2 ^ suc (p - 1 + d) = subst (λ (z : ℕ). q * 2 ^ d < 2 ^ z) (sym up') (subst (λ (z : ℕ). q * 2 ^ d < z) (sym (pow-add 2 p d)) (mul-lt-mul-of-pos-right h (pow-pos d))) in
+    let under : q * 2 ^ d < 2 ^ (p + d) = subst (λ (z : ℕ). q * 2 ^ d < z) (sym (pow-add 2 p d)) (mul-lt-mul-of-pos-right h (pow-pos d)) in
+    let hi : q * 2 ^ d < 2 ^ suc (p - 1 + d) = subst (λ (z : ℕ). q * 2 ^ d < 2 ^ z) (sym up') under in
     omega (arith, size-is (q * 2 ^ d) (p - 1 + d) lo hi)
 
 digits-of : (p q d : ℕ) → 0 < p → q ≤ 2 ^ p → (d ≡ 0) ⊎ (2 ^ (p - 1) ≤ q)
@@ -49,7 +51,11 @@ digits-of p q d P h g = ⊎-elim at-top (λ (l : q < 2 ^ p).
     at-top : q ≡ 2 ^ p → (size (q * 2 ^ d) - p) * 2 ^ (p - 1) + q * 2 ^ d / 2 ^ (size (q * 2 ^ d) - p) ≡ d * 2 ^ (p - 1) + q
     at-top e =
         let t : q ≡ 2 * 2 ^ (p - 1) = e ∙ half-pow p P in
-        let a : q * 2 ^ d ≡ 2 ^ (p - 1) * 2 ^ suc d = ap (λ (x : ℕ). x * 2 ^ d) t ∙ mul-assoc 2 (2 ^ (p - 1)) (2 ^ d) ∙ mul-left-comm 2 (2 ^ (p - 1)) (2 ^ d) ∙ ap (λ (x : ℕ). 2 ^ (p - 1) * x) (sym (pow-succ' 2 d)) in
+        let a : q * 2 ^ d ≡ 2 ^ (p - 1) * 2 ^ suc d =
+        ap (λ (x : ℕ). x * 2 ^ d) t
+        ∙ mul-assoc 2 (2 ^ (p - 1)) (2 ^ d)
+        ∙ mul-left-comm 2 (2 ^ (p - 1)) (2 ^ d)
+        ∙ ap (λ (x : ℕ). 2 ^ (p - 1) * x) (sym (pow-succ' 2 d)) in
         let k : size (2 ^ (p - 1) * 2 ^ suc d) - p ≡ suc d = drop-of p (2 ^ (p - 1)) (suc d) P (pow-lt (omega arith)) (inr (le-refl (2 ^ (p - 1)))) in
         ap (λ (x : ℕ). (size x - p) * 2 ^ (p - 1) + x / 2 ^ (size x - p)) a
         ∙ ap (λ (z : ℕ). z * 2 ^ (p - 1) + 2 ^ (p - 1) * 2 ^ suc d / 2 ^ z) k
@@ -138,7 +144,8 @@ pub packed : (f : Format) (s : Bool) (num den w sh d : ℕ) → Normal f num den
 packed f s num den w sh d c D =
     let v = round f s num den in
     let at = round-at f s num den w sh d c in
-    let full : (d ≡ 0) ⊎ (2 ^ (prec f - 1) ≤ closest w (2 ^ sh)) = ⊎-elim (λ (o : d ≡ 0). inl o) (λ (o : 2 ^ (prec f - 1 + sh) ≤ w). inr (kept-full (prec f - 1) w sh o)) (c .full) in
+    let full : (d ≡ 0) ⊎ (2 ^ (prec f - 1) ≤ closest w (2 ^ sh)) =
+    ⊎-elim (λ (o : d ≡ 0). inl o) (λ (o : 2 ^ (prec f - 1 + sh) ≤ w). inr (kept-full (prec f - 1) w sh o)) (c .full) in
     ap (λ (x : ℕ). ofBits f x) (sym (ap (λ (x : Float). toBits f x) at ∙ pattern f s (closest w (2 ^ sh)) d (kept-under (prec f) w sh (c .under)) full D))
     ∙ ofBits-toBits f v (round-fits f s num den)
 

@@ -28,7 +28,11 @@ no-nan b h =
 
 pub no-nan-negative : (b : ℕ) → b ≤ 0x7ff0_0000_0000_0000 → T (not (nanBits binary64 (0x8000_0000_0000_0000 + b)))
 no-nan-negative b h =
-    subst (λ (t : Bool). T (not t)) (nanBits-above binary64 b ∙ ap (λ (x : ℕ). ltb (ones binary64 * hid binary64) x) (sym (add-mod-left (top binary64) b)) ∙ sym (nanBits-above binary64 (0x8000_0000_0000_0000 + b))) (no-nan b h)
+    let same =
+    nanBits-above binary64 b
+    ∙ ap (λ (x : ℕ). ltb (ones binary64 * hid binary64) x) (sym (add-mod-left (top binary64) b))
+    ∙ sym (nanBits-above binary64 (0x8000_0000_0000_0000 + b)) in
+    subst (λ (t : Bool). T (not t)) same (no-nan b h)
 
 -- ---- the value
 pub deep-is : deep ≡ 2400
@@ -86,14 +90,16 @@ module _ (neg : Bool) (m k : ℕ) (M : m < 2 ^ 64) (Z : m ≡ 0 → ⊥) where
       infinite neg ∙ sym (overflowed binary64 neg (m * 2 ^ k) (2 ^ deep) (m * 2 ^ lz) 11 d (normal m k lz (w .0) (w .1) d (omega arith)) (w .0) (omega arith))
 
   pub code-normal : 1315 + lz ≤ k → k - (1315 + lz) ≤ 2045
-      → ofBits binary64 (cond neg 0x8000_0000_0000_0000 0 + ((k - (1315 + lz)) * 0x10_0000_0000_0000 + closest (m * 2 ^ lz % 2 ^ 64) (2 ^ 11))) ≡ round binary64 neg (m * 2 ^ k) (2 ^ deep)
+      → ofBits binary64 (cond neg 0x8000_0000_0000_0000 0 + ((k - (1315 + lz)) * 0x10_0000_0000_0000 + closest (m * 2 ^ lz % 2 ^ 64) (2 ^ 11)))
+      ≡ round binary64 neg (m * 2 ^ k) (2 ^ deep)
   code-normal h g =
       let w = up-to-63 in
       let d = k - (1315 + lz) in
       ap (λ (x : ℕ). ofBits binary64 (cond neg 0x8000_0000_0000_0000 0 + (d * 0x10_0000_0000_0000 + closest x (2 ^ 11)))) shifted
       ∙ packed binary64 neg (m * 2 ^ k) (2 ^ deep) (m * 2 ^ lz) 11 d (normal m k lz (w .0) (w .1) d (omega arith)) (omega arith)
 
-  pub code-small : k < 1315 + lz → ofBits binary64 (cond neg 0x8000_0000_0000_0000 0 + closest (m * 2 ^ lz % 2 ^ 64) (2 ^ (1315 + lz - k + 11))) ≡ round binary64 neg (m * 2 ^ k) (2 ^ deep)
+  pub code-small : k < 1315 + lz → ofBits binary64 (cond neg 0x8000_0000_0000_0000 0 + closest (m * 2 ^ lz % 2 ^ 64) (2 ^ (1315 + lz - k + 11)))
+      ≡ round binary64 neg (m * 2 ^ k) (2 ^ deep)
   code-small h =
       let w = up-to-63 in
       let sh = 1315 + lz - k + 11 in

@@ -2,7 +2,8 @@
 use mathlib.Core.Path.{_≡_, sym, ap, _∙_, subst}
 use mathlib.Core.Logic.{_⊎_, inr, ⊎-elim}
 use Prim.Native.Nat.{ℕ, suc, _+_, _-_, _*_, _/_, _%_, _^_, _≤_, _<_}
-use native.Mathlib.Nat.{eq-of-mul-eq-mul-right, le-trans, le-of-eq, lt-of-lt-of-le, lt-of-not-le, not-le-of-lt, mul-comm, mul-right-comm, mul-pos, mul-le-mul-right, mul-lt-mul-of-pos-right, pow-succ', div-div-eq-div-mul, le-div-iff-mul-le, div-lt-iff-lt-mul}
+use native.Mathlib.Nat.{eq-of-mul-eq-mul-right, le-trans, le-of-eq, lt-of-lt-of-le, lt-of-not-le, not-le-of-lt}
+use native.Mathlib.Nat.{mul-comm, mul-right-comm, mul-pos, mul-le-mul-right, mul-lt-mul-of-pos-right, pow-succ', div-div-eq-div-mul, le-div-iff-mul-le, div-lt-iff-lt-mul}
 use native.Mathlib.Omega.{arith}
 use mathlib.Core.Bool.{Bool, true, false, not}
 use lib.Dec.{T, ltb, ltb→lt, nltb→le}
@@ -32,8 +33,10 @@ size-scale n c t C Z =
     let z = size (n / c) in
     let lo : 2 ^ (z - 1) * c ≤ n = le-div-iff-mul-le C .0 (size-reaches (n / c) (z - 1) (omega arith)) in
     let hi : n < 2 ^ z * c = div-lt-iff-lt-mul C .0 (size-lt (n / c)) in
-    let lo' : 2 ^ (z - 1 + t) * c ≤ n * 2 ^ t = le-trans (le-of-eq (ap (λ (x : ℕ). x * c) (pow-add 2 (z - 1) t) ∙ mul-right-comm (2 ^ (z - 1)) (2 ^ t) c)) (mul-le-mul-right (2 ^ t) lo) in
-    let hi' : n * 2 ^ t < 2 ^ (z + t) * c = lt-of-lt-of-le (mul-lt-mul-of-pos-right hi (pow-pos t)) (le-of-eq (mul-right-comm (2 ^ z) c (2 ^ t) ∙ ap (λ (x : ℕ). x * c) (sym (pow-add 2 z t)))) in
+    let lo-is : 2 ^ (z - 1 + t) * c ≡ 2 ^ (z - 1) * c * 2 ^ t = ap (λ (x : ℕ). x * c) (pow-add 2 (z - 1) t) ∙ mul-right-comm (2 ^ (z - 1)) (2 ^ t) c in
+    let hi-is : 2 ^ z * c * 2 ^ t ≡ 2 ^ (z + t) * c = mul-right-comm (2 ^ z) c (2 ^ t) ∙ ap (λ (x : ℕ). x * c) (sym (pow-add 2 z t)) in
+    let lo' : 2 ^ (z - 1 + t) * c ≤ n * 2 ^ t = le-trans (le-of-eq lo-is) (mul-le-mul-right (2 ^ t) lo) in
+    let hi' : n * 2 ^ t < 2 ^ (z + t) * c = lt-of-lt-of-le (mul-lt-mul-of-pos-right hi (pow-pos t)) (le-of-eq hi-is) in
     join z t (size (n * 2 ^ t / c)) Z (size-le (n * 2 ^ t / c) (z + t) (div-lt-iff-lt-mul C .1 hi')) (size-gt (n * 2 ^ t / c) (z - 1 + t) (le-div-iff-mul-le C .1 lo'))
 
 -- ---- A grid of steps of c / den, which is 2 ^ b / 2 ^ a. On it `stick num c` is num / den, in half steps.
@@ -43,7 +46,12 @@ step-is l i a b k c den e h =
     eq-of-mul-eq-mul-right (2 ^ a) (pow-pos a) (2 * 2 ^ l * c * 2 ^ i) (den * 2 ^ k) (omega (arith, ap (λ (z : ℕ). 2 * 2 ^ l * 2 ^ i * z) h, ap (λ (z : ℕ). den * z) p))
   where
     p : 2 * 2 ^ l * 2 ^ i * 2 ^ b ≡ 2 ^ k * 2 ^ a
-    p = ap (λ (x : ℕ). x * 2 ^ i * 2 ^ b) (sym (pow-succ' 2 l)) ∙ ap (λ (x : ℕ). x * 2 ^ b) (sym (pow-add 2 (suc l) i)) ∙ sym (pow-add 2 (suc l + i) b) ∙ ap (λ (x : ℕ). 2 ^ x) e ∙ pow-add 2 k a
+    p =
+        ap (λ (x : ℕ). x * 2 ^ i * 2 ^ b) (sym (pow-succ' 2 l))
+        ∙ ap (λ (x : ℕ). x * 2 ^ b) (sym (pow-add 2 (suc l) i))
+        ∙ sym (pow-add 2 (suc l + i) b)
+        ∙ ap (λ (x : ℕ). 2 ^ x) e
+        ∙ pow-add 2 k a
 
 cross₁ : (n d L I K c : ℕ) → 2 * L * c * I ≡ d * K → 2 * (n * L) * (c * I) ≡ n * (d * K)
 cross₁ n d L I K c e = omega (arith, ap (λ (z : ℕ). n * z) e)
@@ -137,7 +145,9 @@ jam f s num i k D I h =
     let y = stick num (2 ^ i) in
     let q : stick (num * 2 ^ k) c ≡ y = stick-same (num * 2 ^ k) c num (2 ^ i) C (pow-pos i) (omega arith) in
     let w : num * 2 ^ k / c ≡ num / 2 ^ i = div-same (num * 2 ^ k) c num (2 ^ i) C (pow-pos i) (omega arith) in
-    sticky f s (num * 2 ^ k) (2 ^ D) c D (i + k) (pow-pos D) C (ap (λ (x : ℕ). x * 2 ^ D) (sym (pow-add 2 i k)) ∙ mul-comm (2 ^ (i + k)) (2 ^ D)) (inr (subst (λ (x : ℕ). prec f < size x) (sym w) h))
+    sticky f s (num * 2 ^ k) (2 ^ D) c D (i + k) (pow-pos D) C
+    (ap (λ (x : ℕ). x * 2 ^ D) (sym (pow-add 2 i k)) ∙ mul-comm (2 ^ (i + k)) (2 ^ D))
+    (inr (subst (λ (x : ℕ). prec f < size x) (sym w) h))
     ∙ ap (λ (x : ℕ). round f s (x * c) (2 * 2 ^ D)) q
     ∙ round-same f s (y * c) (2 * 2 ^ D) (y * 2 ^ (i - 1 + k)) (2 ^ D) (mul-pos (pow-pos 1) (pow-pos D)) (pow-pos D)
     (omega (arith, ap (λ (x : ℕ). y * x * 2 ^ k * 2 ^ D) (half-pow i I), ap (λ (x : ℕ). y * x * 2 ^ D) (pow-add 2 (i - 1) k)))

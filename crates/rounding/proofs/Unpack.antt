@@ -19,7 +19,9 @@ module _ (b : ℕ) (N : b < 2 ^ 52) where
   -- 64 zeros where there is no digit
   pub zeros-in : (11 ≤ leadingZeros 64 b) × (leadingZeros 64 b ≤ 64)
   zeros-in = ⊎-elim
-      (λ (e : b ≡ 0). subst (λ (z : ℕ). (11 ≤ leadingZeros 64 z) × (leadingZeros 64 z ≤ 64)) (sym e) (subst (λ (z : ℕ). (11 ≤ z) × (z ≤ 64)) (sym (leading-of-zero 64)) (lit≤ tt, lit≤ tt)))
+      (λ (e : b ≡ 0).
+      let of-zero = subst (λ (z : ℕ). (11 ≤ z) × (z ≤ 64)) (sym (leading-of-zero 64)) (lit≤ tt, lit≤ tt) in
+      subst (λ (z : ℕ). (11 ≤ leadingZeros 64 z) × (leadingZeros 64 z ≤ 64)) (sym e) of-zero)
       (λ (P : 0 < b). (zeros-ge 52 b (lit< tt) P (omega arith), omega (arith, zeros-le 52 b (lit< tt) P (omega arith))))
       (eq-zero-or-pos b)
 

@@ -35,8 +35,11 @@ signed-requires-2 : tie.Need-signed-requires-2
 signed-requires-2 c κs = search needs
 
 returns-2 : tie.Need-returns-2
-returns-2 c = let s = c .before .before .before .before in
-    c .signed2 .ensures ∙ code-past (s .args .neg) (s .args .m) (s .args .k) (s .fits .m .fits) (c .before .before .before .if1 .left) (c .before .before .if2 .taken) (c .before .if3 .taken)
+returns-2 c =
+    let s = c .before .before .before .before in
+    c .signed2 .ensures
+    ∙ code-past (s .args .neg) (s .args .m) (s .args .k) (s .fits .m .fits)
+    (c .before .before .before .if1 .left) (c .before .before .if2 .taken) (c .before .if3 .taken)
 
 mul-signed : tie.Need-mul-signed
 mul-signed c = search needs
@@ -57,7 +60,8 @@ returns-3 c = let s = c .before .before .before .before .before in
     let d = s .args .k - (1315 + leadingZeros 64 (s .args .m)) in
     c .signed3 .ensures
     ∙ ap (λ (x : ℕ). ofBits binary64 (cond (s .args .neg) 0x8000_0000_0000_0000 0 + (d * 0x10_0000_0000_0000 + x))) (c .before .near .ensures)
-    ∙ code-normal (s .args .neg) (s .args .m) (s .args .k) (s .fits .m .fits) (c .before .before .before .before .if1 .left) (c .before .before .before .if2 .taken) (c .before .before .if3 .left)
+    ∙ code-normal (s .args .neg) (s .args .m) (s .args .k) (s .fits .m .fits)
+    (c .before .before .before .before .if1 .left) (c .before .before .before .if2 .taken) (c .before .before .if3 .left)
 
 sub-near : tie.Need-sub-near
 sub-near c = search needs
@@ -69,8 +73,10 @@ near-requires-2 : tie.Need-near-requires-2
 near-requires-2 c κs = search needs
 
 signed-requires-4 : tie.Need-signed-requires-4
-signed-requires-4 c κs = let s = c .before .before .before in
-    omega (arith, c .near2 .ensures, few (s .args .neg) (s .args .m) (s .args .k) (s .fits .m .fits) (c .before .before .if1 .left) (1315 + leadingZeros 64 (s .args .m) - s .args .k + 11) (omega arith))
+signed-requires-4 c κs =
+    let s = c .before .before .before in
+    let sh = 1315 + leadingZeros 64 (s .args .m) - s .args .k + 11 in
+    omega (arith, c .near2 .ensures, few (s .args .neg) (s .args .m) (s .args .k) (s .fits .m .fits) (c .before .before .if1 .left) sh (omega arith))
 
 returns-4 : tie.Need-returns-4
 returns-4 c = let s = c .before .before .before .before in
