@@ -50,13 +50,15 @@ without-sign (inf false) F = unfold toBits ofBits in refl
 without-sign (fin s m e) F =
     let p = pattern-of binary64 s m e F in
     ap (ofBits binary64) (ap (λ (n : ℕ). n % 2 ^ 63) (p .2) ∙ sign-off binary64 s (p .0) (omega (arith, p .1)))
-    ∙ one-value binary64 (ofBits binary64 (p .0)) (fin false m e) false (sizeAt binary64 (p .0)) (2 ^ 1074) (pow-pos 1074) (ofBits-fits binary64 (p .0)) (unsigned m F) (pattern-value binary64 (p .0) (p .1)) (refl, p .3 .1)
+    ∙ one-value binary64 (ofBits binary64 (p .0)) (fin false m e) false (sizeAt binary64 (p .0)) (2 ^ 1074)
+    (pow-pos 1074) (ofBits-fits binary64 (p .0)) (unsigned m F) (pattern-value binary64 (p .0) (p .1)) (refl, p .3 .1)
   where
     unsigned : (m : ℕ) → T (fits binary64 (fin s m e)) → T (fits binary64 (fin false m e))
     unsigned zero F = unfold fits in F
     unsigned (suc m) F = unfold fits in F
 
-pub code-unsigned : (x y : Float) → T (fits binary64 x) → T (fits binary64 y) → hypotOf binary64 (ofBits binary64 (toBits binary64 x % 2 ^ 63)) (ofBits binary64 (toBits binary64 y % 2 ^ 63)) ≡ hypotOf binary64 x y
+pub code-unsigned : (x y : Float) → T (fits binary64 x) → T (fits binary64 y)
+    → hypotOf binary64 (ofBits binary64 (toBits binary64 x % 2 ^ 63)) (ofBits binary64 (toBits binary64 y % 2 ^ 63)) ≡ hypotOf binary64 x y
 code-unsigned x y F G = ap₂ (hypotOf binary64) (without-sign x F) (without-sign y G) ∙ of-absolutes binary64 x y
 
 -- the larger pattern g and the smaller l of two
@@ -77,7 +79,9 @@ module _ (a b g l : ℕ) (e : (g ≡ cond (ltb a b) b a) × (l ≡ cond (ltb a b
 
 -- ---- an infinite part, then a NaN
 pub code-infinite : (a b : ℕ) → a ≡ 0x7ff0_0000_0000_0000 → ofBits binary64 0x7ff0_0000_0000_0000 ≡ hypotOf binary64 (ofBits binary64 a) (ofBits binary64 b)
-code-infinite a b e = infinite-value binary64 ∙ sym (ap (λ (v : Float). hypotOf binary64 v (ofBits binary64 b)) (ap (ofBits binary64) e ∙ infinite-value binary64) ∙ (unfold hypotOf in refl))
+code-infinite a b e =
+    let infinite : ofBits binary64 a ≡ inf false = ap (ofBits binary64) e ∙ infinite-value binary64 in
+    infinite-value binary64 ∙ sym (ap (λ (v : Float). hypotOf binary64 v (ofBits binary64 b)) infinite ∙ (unfold hypotOf in refl))
 
 pub code-infinite-second : (a b : ℕ) → b ≡ 0x7ff0_0000_0000_0000 → ofBits binary64 0x7ff0_0000_0000_0000 ≡ hypotOf binary64 (ofBits binary64 a) (ofBits binary64 b)
 code-infinite-second a b e = code-infinite b a e ∙ swap binary64 (ofBits binary64 b) (ofBits binary64 a)
@@ -91,7 +95,9 @@ nan-with (fin t n d) s a c h = refl
 pub code-nan : (a b : ℕ) → 0x7ff0_0000_0000_0000 ≤ a → (a ≡ 0x7ff0_0000_0000_0000 → ⊥) → (b ≡ 0x7ff0_0000_0000_0000 → ⊥) → a < 2 ^ 63 → b ≤ a
     → div binary64 (ofBits binary64 0) (ofBits binary64 0) ≡ hypotOf binary64 (ofBits binary64 a) (ofBits binary64 b)
 code-nan a b h n m l g =
-    zero-by-zero ∙ sym (ap (λ (v : Float). hypotOf binary64 v (ofBits binary64 b)) (nan-pattern a (omega arith)) ∙ go (ltb b 0x7ff0_0000_0000_0000) (ltb→lt b 0x7ff0_0000_0000_0000) (nltb→le b 0x7ff0_0000_0000_0000))
+    let i : ℕ = 0x7ff0_0000_0000_0000 in
+    zero-by-zero
+    ∙ sym (ap (λ (v : Float). hypotOf binary64 v (ofBits binary64 b)) (nan-pattern a (omega arith)) ∙ go (ltb b i) (ltb→lt b i) (nltb→le b i))
   where
     both : hypotOf binary64 nan nan ≡ nan
     both = unfold hypotOf in refl

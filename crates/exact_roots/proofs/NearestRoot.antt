@@ -21,7 +21,10 @@ module _ (m k : ℕ) where
   at-most h =
       let R = isqrt-is m in
       let e = stickRoot-is m (isqrt m) R in
-      ⊎-elim (λ (z : isqrt m ≡ k). omega (arith, R .0, ap₂ (λ (x y : ℕ). x * y) z z)) (λ (z : isqrt m < k). le-trans (le-of-lt (R .1)) (mul-le-mul (omega arith) (omega arith))) (eq-or-lt-of-le (omega arith))
+      ⊎-elim
+      (λ (z : isqrt m ≡ k). omega (arith, R .0, ap₂ (λ (x y : ℕ). x * y) z z))
+      (λ (z : isqrt m < k). le-trans (le-of-lt (R .1)) (mul-le-mul (omega arith) (omega arith)))
+      (eq-or-lt-of-le (omega arith))
 
   at-most-back : m ≤ k * k → stickRoot m ≤ 2 * k
   at-most-back h =

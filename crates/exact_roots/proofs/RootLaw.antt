@@ -25,8 +25,11 @@ finer f n i =
     let m = 4 * n in
     let P : 0 < p = pow-pos i in
     let L : 0 < 4 * l = mul-pos (pow-pos 2) (pow-pos (low f)) in
-    sym (sticky f false (stickRoot (m * (p * p))) (4 * l * p) (2 * p) (suc (low f)) 0 (mul-pos L P) (mul-pos (pow-pos 1) P) (steps p l (2 ^ suc (low f)) (pow-succ' 2 (low f))) (inl (under (low f)))
-    ∙ ap (λ (x : ℕ). round f false (x * (2 * p)) (2 * (4 * l * p))) (ap (λ (x : ℕ). stick (stickRoot x) (2 * p)) (sym (add-zero (m * (p * p)))) ∙ cut-more m p 0 P (mul-pos P P) ∙ more-none m)
+    let none-cut : stick (stickRoot (m * (p * p))) (2 * p) ≡ stickRoot m =
+    ap (λ (x : ℕ). stick (stickRoot x) (2 * p)) (sym (add-zero (m * (p * p)))) ∙ cut-more m p 0 P (mul-pos P P) ∙ more-none m in
+    sym (sticky f false (stickRoot (m * (p * p))) (4 * l * p) (2 * p) (suc (low f)) 0
+    (mul-pos L P) (mul-pos (pow-pos 1) P) (steps p l (2 ^ suc (low f)) (pow-succ' 2 (low f))) (inl (under (low f)))
+    ∙ ap (λ (x : ℕ). round f false (x * (2 * p)) (2 * (4 * l * p))) none-cut
     ∙ round-same f false (stickRoot m * (2 * p)) (2 * (4 * l * p)) (stickRoot m) (4 * l) (mul-pos (pow-pos 1) (mul-pos L P)) L (even (stickRoot m) p l))
   where
     steps : (p l k : ℕ) → k ≡ 2 * l → 2 * p * k ≡ 4 * l * p * 2 ^ 0

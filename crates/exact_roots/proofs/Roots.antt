@@ -1,7 +1,8 @@
 -- The whole part of a square root, and what is known of it where the number is cut.
 use mathlib.Core.Path.{_≡_, refl, sym, ap, ap₂, _∙_, subst}
 use Prim.Native.Nat.{ℕ, zero, suc, _+_, _-_, _*_, _/_, _%_, _^_, _≤_, _<_, min}
-use native.Mathlib.Nat.{lt-of-lt-of-le, lt-of-le-of-lt, lt-of-not-le, not-le-of-lt, mul-pos, mul-le-mul, mul-le-mul-right, lt-of-mul-lt-mul-right, le-of-mul-le-mul-right, pow-succ', pow-le-pow-left, mod-lt, div-add-mod', div-div-eq-div-mul, add-zero}
+use native.Mathlib.Nat.{lt-of-lt-of-le, lt-of-le-of-lt, lt-of-not-le, not-le-of-lt, lt-of-mul-lt-mul-right, le-of-mul-le-mul-right}
+use native.Mathlib.Nat.{mul-pos, mul-le-mul, mul-le-mul-right, pow-succ', pow-le-pow-left, mod-lt, div-add-mod', div-div-eq-div-mul, add-zero}
 use native.Mathlib.Omega.{arith}
 use mathlib.Core.Bool.{Bool, true, false, not, cond}
 use lib.Dec.{T, leb, leb→le, nleb→lt, lit≤}
@@ -77,7 +78,9 @@ more-scaled n t u U = go (n - isqrt n * isqrt n)
 
     go : (x : ℕ) → 2 * isqrt n + min 1 (x + t * u) ≡ 2 * isqrt n + min 1 (x + t)
     go x = ap (λ (y : ℕ). 2 * isqrt n + y)
-        (zero-together (x + t * u) (x + t) (λ h. let z : t ≡ 0 = none t (omega arith) in omega arith) (λ h. let z : t * u ≡ 0 = ap (λ (y : ℕ). y * u) {x = t} {y = 0} (omega arith) ∙ omega arith in omega arith))
+        (zero-together (x + t * u) (x + t)
+        (λ h. let z : t ≡ 0 = none t (omega arith) in omega arith)
+        (λ h. let z : t * u ≡ 0 = ap (λ (y : ℕ). y * u) {x = t} {y = 0} (omega arith) ∙ omega arith in omega arith))
 
 -- ---- a number cut to n steps of p * p, with t cut off: its root s, cut to steps of p, is n's
 module _ (n p t s : ℕ) (P : 0 < p) (H : t < p * p) (R : Root (n * (p * p) + t) s) where

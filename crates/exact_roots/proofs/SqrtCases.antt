@@ -45,7 +45,9 @@ of-value : (f : Format) (x : Float) (a : ℕ) → HasValue x false a (2 ^ low f)
 unfolding sqrtOf
 of-value f nan a h A = absurd h
 of-value f (inf s) a h A = absurd h
-of-value f (fin s zero e) a h A = absurd (lt-irrefl 0 (subst (λ (x : ℕ). 0 < x) (sym (h .1) ∙ ap (λ (x : ℕ). x * 2 ^ low f) (zero-mul (up e)) ∙ zero-mul (2 ^ low f)) (mul-pos A (down-pos e))))
+of-value f (fin s zero e) a h A =
+    let none = sym (h .1) ∙ ap (λ (x : ℕ). x * 2 ^ low f) (zero-mul (up e)) ∙ zero-mul (2 ^ low f) in
+    absurd (lt-irrefl 0 (subst (λ (x : ℕ). 0 < x) none (mul-pos A (down-pos e))))
 of-value f (fin true (suc m) e) a h A = absurd (true≢false (h .0))
 of-value f (fin false (suc m) e) a h A = ap (λ (x : ℕ). rootNearest f (x * 2 ^ low f)) (units-of-value f (fin false (suc m) e) false a h)
 

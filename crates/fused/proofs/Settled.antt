@@ -1,5 +1,7 @@
--- Where the exact product need not be known: the rounded product lies strictly between two values, so the exact one lies between them too, since rounding keeps the order and a value of
--- the format is its own rounding. The sum with the exact product is then between the sums with the two; where those are one value and no zero, it is that value. Over any format. Assumes nothing.
+-- Where the exact product need not be known: the rounded product lies strictly between two values, so the exact one lies
+-- between them too, since rounding keeps the order and a value of the format is its own rounding.
+-- The sum with the exact product is then between the sums with the two; where those are one value and no zero, it is that value.
+-- Over any format. Assumes nothing.
 use mathlib.Core.Path.{_≡_, refl, sym, _∙_}
 use mathlib.Core.Logic.{_⊎_, inl, inr}
 use mathlib.Core.Bool.{Bool, true, false, not, _&&_, cond}
@@ -88,8 +90,10 @@ module _ (f : Format) (x y : Float) (X : T (finite x)) (Y : T (finite y)) where
   lower (fin s k d) (fin u m e) F h n =
       let l = fin s k d in
       let z = fin u m e in
-      rounds-mono f (add f l z) (fmaOf f x y z) _ _ (den l * den z) _ _ (den x * den y * den z) (mul-pos (den-pos l) (den-pos z)) (mul-pos D (den-pos z)) (add-rounds f l z tt tt) (fma-rounds f x y z X Y tt)
-      (add-fractions (plusPart l) (minusPart l) (den l) (plusProduct x y) (minusProduct x y) (den x * den y) (plusPart z) (minusPart z) (den z) (rounds-lt f l (mul f x y) _ _ (den l) _ _ (den x * den y) (den-pos l) D (own-rounds f l F tt) (mul-rounds f x y X Y) h))
+      let upto = rounds-lt f l (mul f x y) _ _ (den l) _ _ (den x * den y) (den-pos l) D (own-rounds f l F tt) (mul-rounds f x y X Y) h in
+      rounds-mono f (add f l z) (fmaOf f x y z) _ _ (den l * den z) _ _ (den x * den y * den z)
+      (mul-pos (den-pos l) (den-pos z)) (mul-pos D (den-pos z)) (add-rounds f l z tt tt) (fma-rounds f x y z X Y tt)
+      (add-fractions (plusPart l) (minusPart l) (den l) (plusProduct x y) (minusProduct x y) (den x * den y) (plusPart z) (minusPart z) (den z) upto)
 
   fma-fits : (z : Float) → T (fits f (fmaOf f x y z))
   fma-fits nan = go x y X Y
@@ -117,14 +121,16 @@ module _ (f : Format) (x y : Float) (X : T (finite x)) (Y : T (finite y)) where
       go (inf false) F k = unfold add in greatest (fmaOf f x y z) (rounds-number f (fmaOf f x y z) _ _ _ (fma-rounds f x y z X Y tt))
       go (fin s j d) F k =
           let h = fin s j d in
-          rounds-mono f (fmaOf f x y z) (add f h z) _ _ (den x * den y * den z) _ _ (den h * den z) (mul-pos D (den-pos z)) (mul-pos (den-pos h) (den-pos z)) (fma-rounds f x y z X Y tt) (add-rounds f h z tt tt)
-          (add-fractions (plusProduct x y) (minusProduct x y) (den x * den y) (plusPart h) (minusPart h) (den h) (plusPart z) (minusPart z) (den z) (rounds-lt f (mul f x y) h _ _ (den x * den y) _ _ (den h) D (den-pos h) (mul-rounds f x y X Y) (own-rounds f h F tt) k))
+          let upto = rounds-lt f (mul f x y) h _ _ (den x * den y) _ _ (den h) D (den-pos h) (mul-rounds f x y X Y) (own-rounds f h F tt) k in
+          rounds-mono f (fmaOf f x y z) (add f h z) _ _ (den x * den y * den z) _ _ (den h * den z)
+          (mul-pos D (den-pos z)) (mul-pos (den-pos h) (den-pos z)) (fma-rounds f x y z X Y tt) (add-rounds f h z tt tt)
+          (add-fractions (plusProduct x y) (minusProduct x y) (den x * den y) (plusPart h) (minusPart h) (den h) (plusPart z) (minusPart z) (den z) upto)
 
 -- ---- one value
 
 -- r is no more than the sum with what is below the product, and no less than the sum with what is above it
-enclosed : (f : Format) (x y z l h r : Float) → T (fits f l) → T (fits f h) → T (fits f r) → T (lt l (mul f x y)) → T (lt (mul f x y) h) → T (le r (add f l z)) → T (le (add f h z) r) → (T (eq r nought) → ⊥)
-    → r ≡ fmaOf f x y z
+enclosed : (f : Format) (x y z l h r : Float) → T (fits f l) → T (fits f h) → T (fits f r) → T (lt l (mul f x y)) → T (lt (mul f x y) h)
+    → T (le r (add f l z)) → T (le (add f h z) r) → (T (eq r nought) → ⊥) → r ≡ fmaOf f x y z
 enclosed f x y z l h r L H R a b c d n =
     let v = mul-finite f x y (strictly-finite l (mul f x y) h a b) in
     let w = fmaOf f x y z in
@@ -141,8 +147,9 @@ either a p b h = go (lt a p) (lt p b) (lt b p) (lt p a) h
     go false j false l h = absurd (holds h)
 
 -- The code's tests: a and b on both sides of the rounded product, and one sum with both, which is no zero.
-pub settled : (f : Format) (x y z a b : Float) → T (fits f a) → T (fits f b) → (let p = mul f x y in cond (lt a p) (lt p b) (lt b p && lt p a)) ≡ true → eq (add f a z) (add f b z) ≡ true → ne (add f a z) nought ≡ true
-    → add f a z ≡ fmaOf f x y z
+pub settled : (f : Format) (x y z a b : Float) → T (fits f a) → T (fits f b)
+    → (let p = mul f x y in cond (lt a p) (lt p b) (lt b p && lt p a)) ≡ true
+    → eq (add f a z) (add f b z) ≡ true → ne (add f a z) nought ≡ true → add f a z ≡ fmaOf f x y z
 settled f x y z a b F G t h n = elim (either a (mul f x y) b t) [
   | inl (i, j) ↦ enclosed f x y z a b r F G (add-fits f a z) i j (le-reflexive r (le-number r s (eq-le r s e) .0)) (eq-ge r s e) no-zero
   | inr (i, j) ↦ enclosed f x y z b a r G F (add-fits f a z) i j (eq-le r s e) (le-reflexive r (le-number r s (eq-le r s e) .0)) no-zero

@@ -53,7 +53,11 @@ module _ (a b : ℕ) (A : a < 2 ^ 64) (B : b < 2 ^ 64) where
 
   -- the low word, from sums that wrap
   pub low-is : (middle lo : ℕ) → middle ≡ (a / 2 ^ 32 * (b % 2 ^ 32) + a % 2 ^ 32 * (b / 2 ^ 32)) % 2 ^ 64 → lo ≡ (middle * 2 ^ 32 % 2 ^ 64 + low) % 2 ^ 64 → lo ≡ a * b % 2 ^ 64
-  low-is middle lo m e = e ∙ ap (λ (x : ℕ). (x * 2 ^ 32 % 2 ^ 64 + low) % 2 ^ 64) m ∙ wrap (a / 2 ^ 32 * (b / 2 ^ 32)) (a / 2 ^ 32 * (b % 2 ^ 32) + a % 2 ^ 32 * (b / 2 ^ 32)) low ∙ ap (λ (x : ℕ). x % 2 ^ 64) halved
+  low-is middle lo m e =
+      e
+      ∙ ap (λ (x : ℕ). (x * 2 ^ 32 % 2 ^ 64 + low) % 2 ^ 64) m
+      ∙ wrap (a / 2 ^ 32 * (b / 2 ^ 32)) (a / 2 ^ 32 * (b % 2 ^ 32) + a % 2 ^ 32 * (b / 2 ^ 32)) low
+      ∙ ap (λ (x : ℕ). x % 2 ^ 64) halved
     where
       wrap : (p q l : ℕ) → (q % 2 ^ 64 * 2 ^ 32 % 2 ^ 64 + l) % 2 ^ 64 ≡ (p * 2 ^ 64 + q * 2 ^ 32 + l) % 2 ^ 64
       wrap p q l = omega arith

@@ -49,7 +49,11 @@ unfolding filled
 fill-again f n m old h =
     let e : m ≡ length (table f n) + (m - n) = omega (arith, length-table f n) in
     let g : n + (m - n) ≡ m = omega arith in
-    ap (λ l. table f m ++ l) (ap (λ (k : ℕ). drop k (table f n ++ drop n old)) e ∙ drop-append-add (table f n) (drop n old) (m - n) ∙ drop-drop (m - n) n old ∙ ap (λ (k : ℕ). drop k old) g)
+    ap (λ l. table f m ++ l)
+    (ap (λ (k : ℕ). drop k (table f n ++ drop n old)) e
+    ∙ drop-append-add (table f n) (drop n old) (m - n)
+    ∙ drop-drop (m - n) n old
+    ∙ ap (λ (k : ℕ). drop k old) g)
 
 pub fill-on : {A : Type 0} (f : ℕ → A) (n m : ℕ) (old l k : List A) → n ≤ m → l ≡ filled f n old → k ≡ filled f m l → k ≡ filled f m old
 fill-on f n m old l k h e g = g ∙ ap (filled f m) e ∙ fill-again f n m old h

@@ -53,17 +53,28 @@ module _ (a m k w : ℕ) (L : m * 8 ≤ w) (H : w < m * 8 + 4) where
 
     kept : closest w (2 ^ sh) ≡ c
     kept =
-        sym (near-lt w (2 ^ sh) (2 ^ (sh - 1)) (half-pow sh (omega arith)) (subst (λ (x : ℕ). x < 2 ^ (sh - 1)) (sym (ap (λ (x : ℕ). x % 2 ^ sh) steps ∙ digits-mod c over-lt)) (let h = half in omega arith)))
+        let h = half in
+        let over : w % 2 ^ sh ≡ w - m * 8 = ap (λ (x : ℕ). x % 2 ^ sh) steps ∙ digits-mod c over-lt in
+        let less : w % 2 ^ sh < 2 ^ (sh - 1) = subst (λ (x : ℕ). x < 2 ^ (sh - 1)) (sym over) (omega arith) in
+        sym (near-lt w (2 ^ sh) (2 ^ (sh - 1)) (half-pow sh (omega arith)) less)
         ∙ ap (λ (x : ℕ). x / 2 ^ sh) steps
         ∙ digits-div c over-lt
 
     placed : k + sh ≡ d + 56 → c < 2 ^ 53 → (d ≡ 0) ⊎ (2 ^ 52 ≤ c) → Normal binary64 (w * 2 ^ (k + 1270)) (2 ^ deep) w sh d
-    placed K C F = record {
-      den-pos = pow-pos deep;
-      value = three-powers w (k + 1270) 1074 sh 0 deep d (omega (arith, deep-is)) ∙ ap (λ (x : ℕ). x * (2 ^ deep * 2 ^ d)) (mul-one w);
-      under = subst (λ (x : ℕ). w < x) (sym (pow-add 2 53 sh)) (lt-of-lt-of-le (subst (λ (x : ℕ). x < (c + 1) * 2 ^ sh) (sym steps) (let r = over-lt in omega arith)) (mul-le-mul-right (2 ^ sh) (omega arith)));
-      full = ⊎-elim (λ (e : d ≡ 0). inl e) (λ (g : 2 ^ 52 ≤ c). inr (le-trans (le-of-eq (pow-add 2 52 sh)) (le-trans (mul-le-mul-right (2 ^ sh) g) (le-trans (le-of-eq (sym E)) L)))) F;
-    }
+    placed K C F =
+        let r = over-lt in
+        let next : w < (c + 1) * 2 ^ sh = subst (λ (x : ℕ). x < (c + 1) * 2 ^ sh) (sym steps) (omega arith) in
+        let from : c * 2 ^ sh ≤ w = le-trans (le-of-eq (sym E)) L in
+        record {
+          den-pos = pow-pos deep;
+          value = three-powers w (k + 1270) 1074 sh 0 deep d (omega (arith, deep-is)) ∙ ap (λ (x : ℕ). x * (2 ^ deep * 2 ^ d)) (mul-one w);
+          under = subst (λ (x : ℕ). w < x) (sym (pow-add 2 53 sh)) (lt-of-lt-of-le next (mul-le-mul-right (2 ^ sh) (omega arith)));
+          full =
+              ⊎-elim
+              (λ (e : d ≡ 0). inl e)
+              (λ (g : 2 ^ 52 ≤ c). inr (le-trans (le-of-eq (pow-add 2 52 sh)) (le-trans (mul-le-mul-right (2 ^ sh) g) from)))
+              F;
+        }
 
     itself : k + sh ≡ d + 56 → c < 2 ^ 53 → (d ≡ 0) ⊎ (2 ^ 52 ≤ c) → suc d < 2047 → a ≡ d * 2 ^ 52 + c → ofBits binary64 a ≡ round binary64 false (w * 2 ^ (k + 1270)) (2 ^ deep)
     itself K C F D e =
@@ -82,7 +93,9 @@ own-pattern a m k w P A p u L H = go (ltb a (2 ^ 52)) (ltb→lt a (2 ^ 52)) (nlt
         let s : k < 53 = pow-lt-back k 53 (omega arith) in
         let e : 56 - k + k ≡ 56 = omega arith in
         let c : 2 ^ (56 - k) * 2 ^ k ≡ 2 ^ 56 = sym (pow-add 2 (56 - k) k) ∙ ap (λ (x : ℕ). 2 ^ x) e in
-        itself a m k w L H a (56 - k) 0 (eq-of-mul-eq-mul-right (2 ^ k) (pow-pos k) (m * 8) (a * 2 ^ (56 - k)) (omega (arith, ap (λ (x : ℕ). a * x) c))) (omega arith) (omega arith) (omega arith) (inl refl) (lit< tt) (omega arith)
+        let same : m * 8 ≡ a * 2 ^ (56 - k) =
+        eq-of-mul-eq-mul-right (2 ^ k) (pow-pos k) (m * 8) (a * 2 ^ (56 - k)) (omega (arith, ap (λ (x : ℕ). a * x) c)) in
+        itself a m k w L H a (56 - k) 0 same (omega arith) (omega arith) (omega arith) (inl refl) (lit< tt) (omega arith)
 
     normal : 2 ^ 52 ≤ a → ofBits binary64 a ≡ round binary64 false (w * 2 ^ (k + 1270)) (2 ^ deep)
     normal N =

@@ -24,10 +24,15 @@ of-values nan y a b h k = absurd h
 of-values (inf s) y a b h k = absurd h
 of-values (fin s m e) nan a b h k = absurd k
 of-values (fin s m e) (inf t) a b h k = absurd k
-of-values (fin s m e) (fin t n d) a b h k = ap₂ (λ (i j : ℕ). rootNearest binary64 (i * i + j * j)) (units-of-value binary64 (fin s m e) false a h) (units-of-value binary64 (fin t n d) false b k)
+of-values (fin s m e) (fin t n d) a b h k =
+    ap₂ (λ (i j : ℕ). rootNearest binary64 (i * i + j * j))
+    (units-of-value binary64 (fin s m e) false a h) (units-of-value binary64 (fin t n d) false b k)
 
-of-patterns : (a b : ℕ) → a < 0x7ff0_0000_0000_0000 → b ≤ a → hypotOf binary64 (ofBits binary64 a) (ofBits binary64 b) ≡ rootNearest binary64 (sizeAt binary64 a * sizeAt binary64 a + sizeAt binary64 b * sizeAt binary64 b)
-of-patterns a b A h = of-values (ofBits binary64 a) (ofBits binary64 b) (sizeAt binary64 a) (sizeAt binary64 b) (pattern-value binary64 a A) (pattern-value binary64 b (lt-of-le-of-lt h A))
+of-patterns : (a b : ℕ) → a < 0x7ff0_0000_0000_0000 → b ≤ a → hypotOf binary64 (ofBits binary64 a) (ofBits binary64 b)
+    ≡ rootNearest binary64 (sizeAt binary64 a * sizeAt binary64 a + sizeAt binary64 b * sizeAt binary64 b)
+of-patterns a b A h =
+    of-values (ofBits binary64 a) (ofBits binary64 b) (sizeAt binary64 a) (sizeAt binary64 b)
+    (pattern-value binary64 a A) (pattern-value binary64 b (lt-of-le-of-lt h A))
 
 -- ---- the sizes a and b on the grid of 2 ^ -53 units, their squares on the grid of 2 ^ -110, and the second square cut
 module _ (a b m k n j : ℕ) (A : a * 2 ^ 53 ≡ m * 2 ^ k) (B : b * 2 ^ 53 ≡ n * 2 ^ j) (M : 2 ^ 52 ≤ m) (J : j ≤ k) where
@@ -94,8 +99,12 @@ module _ (a b m k n j : ℕ) (p : Both a b m k n j) where
   pub lower : j ≤ k
   lower = exponents-rise a b m k n j (p .first) (p .second) (p .ordered)
 
-  pub code-near : round binary64 false (stickMore (m * 4 * (m * 4) + n * 4 * (n * 4) / 2 ^ ((k - j) * 2)) (n * 4 * (n * 4) % 2 ^ ((k - j) * 2)) * 2 ^ (k + 1270)) (2 ^ deep) ≡ hypotOf binary64 (ofBits binary64 a) (ofBits binary64 b)
-  code-near = code-length (sizeAt binary64 a) (sizeAt binary64 b) m k n j (p .first .value) (p .second .value) (p .first .full (p .some)) lower ∙ sym (of-patterns a b (p .below) (p .ordered))
+  pub code-near : round binary64 false
+      (stickMore (m * 4 * (m * 4) + n * 4 * (n * 4) / 2 ^ ((k - j) * 2)) (n * 4 * (n * 4) % 2 ^ ((k - j) * 2)) * 2 ^ (k + 1270)) (2 ^ deep)
+      ≡ hypotOf binary64 (ofBits binary64 a) (ofBits binary64 b)
+  code-near =
+      code-length (sizeAt binary64 a) (sizeAt binary64 b) m k n j (p .first .value) (p .second .value) (p .first .full (p .some)) lower
+      ∙ sym (of-patterns a b (p .below) (p .ordered))
 
   pub code-far : (m ≡ significand a) × (k ≡ exponent a) → 26 < k - j → ofBits binary64 a ≡ hypotOf binary64 (ofBits binary64 a) (ofBits binary64 b)
   code-far u d =

@@ -33,7 +33,12 @@ pub parted : (b m k : ℕ) → b < 0x7ff0_0000_0000_0000 → (m ≡ significand 
 parted b m k H (e, h) = record {
   value = units-unpacked b ∙ ap₂ (λ (x y : ℕ). x * 2 ^ y) (sym e) (sym h);
   full = λ P. subst (λ (x : ℕ). 2 ^ 52 ≤ x) (sym e) (significand-in b P .0);
-  under = subst (λ (x : ℕ). x < 2 ^ 53) (sym e) (⊎-elim (λ (z : b ≡ 0). subst (λ (x : ℕ). x < 2 ^ 53) (sym (ap significand z ∙ no-digits)) (lit< tt)) (λ (P : 0 < b). significand-in b P .1) (eq-zero-or-pos b));
+  under =
+      subst (λ (x : ℕ). x < 2 ^ 53) (sym e)
+      (⊎-elim
+      (λ (z : b ≡ 0). subst (λ (x : ℕ). x < 2 ^ 53) (sym (ap significand z ∙ no-digits)) (lit< tt))
+      (λ (P : 0 < b). significand-in b P .1)
+      (eq-zero-or-pos b));
   least = λ z. h ∙ ap exponent z ∙ lowest;
   short = subst (λ (x : ℕ). x < 2099) (sym h) (exponent-lt b H);
 }

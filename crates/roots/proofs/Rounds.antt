@@ -1,7 +1,8 @@
 -- Heron's rounds for a root, and a root lengthened by one division: the code of floor_root.
 use mathlib.Core.Path.{_≡_, sym, ap, ap₂, _∙_, subst}
 use Prim.Native.Nat.{ℕ, zero, suc, _+_, _-_, _*_, _/_, _%_, _^_, _≤_, _<_, min}
-use native.Mathlib.Nat.{le-trans, le-of-eq, lt-of-le-of-lt, lt-suc-self, lt-of-mul-lt-mul-right, mul-le-mul, mul-le-mul-right, div-lt-iff-lt-mul, div-add-mod', div-mul-le-self, mod-lt}
+use native.Mathlib.Nat.{le-trans, le-of-eq, lt-of-le-of-lt, lt-suc-self, lt-of-mul-lt-mul-right, mul-le-mul, mul-le-mul-right}
+use native.Mathlib.Nat.{div-lt-iff-lt-mul, div-add-mod', div-mul-le-self, mod-lt}
 use native.Mathlib.Omega.{arith}
 use mathlib.Core.Bool.{Bool, true, false, not}
 use lib.Dec.{T, leb, leb→le, nleb→lt}
@@ -17,7 +18,11 @@ squares a b = go (leb a b) (leb→le a b) (nleb→lt a b)
   where
     go : (t : Bool) → (T t → a ≤ b) → (T (not t) → b < a) → 2 * (a * b) ≤ a * a + b * b
     go true x y = let h = x tt in let e : b ≡ a + (b - a) = omega arith in subst (λ (z : ℕ). 2 * (a * z) ≤ a * a + z * z) (sym e) (squares-le a (b - a))
-    go false x y = let h = y tt in let e : a ≡ b + (a - b) = omega arith in subst (λ (z : ℕ). 2 * (z * b) ≤ z * z + b * b) (sym e) (le-trans (le-of-eq (omega arith)) (le-trans (squares-le b (a - b)) (le-of-eq (omega arith))))
+    go false x y =
+        let h = y tt in
+        let e : a ≡ b + (a - b) = omega arith in
+        subst (λ (z : ℕ). 2 * (z * b) ≤ z * z + b * b) (sym e)
+        (le-trans (le-of-eq (omega arith)) (le-trans (squares-le b (a - b)) (le-of-eq (omega arith))))
 
 above : (n r q m : ℕ) → n < suc q * r → r + q < m + m → n < m * m
 above n r q m h k =

@@ -32,9 +32,11 @@ module _ (a m k : ℕ) (U : a * 2 ^ 53 ≡ m * 2 ^ k) (M : 2 ^ 52 ≤ m) (N : m 
   total =
       let z = (k + 1) % 2 in
       let g = suc ((k + 1) / 2 + 482) in
-      go (2 ^ k) (2 ^ 53) (2 ^ 1021) (2 ^ 1074) (m * 2 ^ z % 2 ^ 64) (2 ^ z) (2 ^ g) (2 ^ (g + g)) U (pow-add 2 53 1021) placed-is (pow-add 2 g g) (three-powers m k 1021 2 z 56 (g + g) (omega arith))
+      go (2 ^ k) (2 ^ 53) (2 ^ 1021) (2 ^ 1074) (m * 2 ^ z % 2 ^ 64) (2 ^ z) (2 ^ g) (2 ^ (g + g))
+      U (pow-add 2 53 1021) placed-is (pow-add 2 g g) (three-powers m k 1021 2 z 56 (g + g) (omega arith))
     where
-      go : (x c d l h y p q : ℕ) → a * c ≡ m * x → l ≡ c * d → h ≡ m * y → q ≡ p * p → m * x * d * 2 ^ 2 ≡ m * y * (2 ^ 56 * q) → 4 * (a * l) * (2 ^ 0 * 2 ^ 0) ≡ (h * 256 * 2 ^ 48 + 0) * (p * p) + 0 * 1
+      go : (x c d l h y p q : ℕ) → a * c ≡ m * x → l ≡ c * d → h ≡ m * y → q ≡ p * p → m * x * d * 2 ^ 2 ≡ m * y * (2 ^ 56 * q)
+          → 4 * (a * l) * (2 ^ 0 * 2 ^ 0) ≡ (h * 256 * 2 ^ 48 + 0) * (p * p) + 0 * 1
       go x c d l h y p q u e f s w = rw (e, f) (omega (arith, ap (λ (i : ℕ). i * d) u, ap (λ (i : ℕ). m * y * i) s))
 
   pub code-root : round binary64 false (stickMore (m * 2 ^ ((k + 1) % 2) % 2 ^ 64 * 256 * 2 ^ 48 + 0) 0 * 2 ^ ((k + 1) / 2 + 1807)) (2 ^ deep) ≡ rootNearest binary64 (a * 2 ^ 1074)

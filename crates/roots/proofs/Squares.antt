@@ -42,8 +42,11 @@ module _ (n h l : ℕ) (E : h * 2 ^ 64 + l ≡ n) (G : 2 ^ 108 ≤ n) (H : n < 2
       go a b e B = (omega arith, omega arith)
 
 -- yh and yl are what `product` gives, ch, cl and z what `cut` gives, xh and xl `product` again, h and l `plus`
-module _ (x y s : ℕ) (X : 2 ^ 54 ≤ x) (Z : x < 2 ^ 55) (Y : y < 2 ^ 55) (S : s < 54) (yh yl ch cl z xh xl h l : ℕ) (P : (yh ≡ y * y / 2 ^ 64) × (yl ≡ y * y % 2 ^ 64))
-    (C : (ch * 2 ^ 64 + cl ≡ (yh * 2 ^ 64 + yl) / 2 ^ s) × (z ≡ yl % 2 ^ s)) (Q : (xh ≡ x * x / 2 ^ 64) × (xl ≡ x * x % 2 ^ 64)) (T : (h ≡ (xh + ch + (xl + cl) / 2 ^ 64) % 2 ^ 64) × (l ≡ (xl + cl) % 2 ^ 64)) where
+module _ (x y s : ℕ) (X : 2 ^ 54 ≤ x) (Z : x < 2 ^ 55) (Y : y < 2 ^ 55) (S : s < 54) (yh yl ch cl z xh xl h l : ℕ)
+    (P : (yh ≡ y * y / 2 ^ 64) × (yl ≡ y * y % 2 ^ 64))
+    (C : (ch * 2 ^ 64 + cl ≡ (yh * 2 ^ 64 + yl) / 2 ^ s) × (z ≡ yl % 2 ^ s))
+    (Q : (xh ≡ x * x / 2 ^ 64) × (xl ≡ x * x % 2 ^ 64))
+    (T : (h ≡ (xh + ch + (xl + cl) / 2 ^ 64) % 2 ^ 64) × (l ≡ (xl + cl) % 2 ^ 64)) where
   abbrev all : ℕ
   all = x * x + y * y / 2 ^ s
 

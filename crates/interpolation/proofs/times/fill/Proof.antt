@@ -14,7 +14,9 @@ use Rattle.interpolation.proofs.times.fill.Statement.{statement}
 use Rattle.interpolation.proofs.times.fill.Tie as tie
 
 abbrev Inv-loop : tie.InvT-loop
-Inv-loop s a t0 out₀ t₀ root₀ k₀ out t root k = (k + 1 ≤ length s) × (t ≡ timeAt s a t0 k) × (root ≡ sqrtOf binary64 (at a k)) × (length out ≡ length out₀) × (out ≡ filled (timeAt s a t0) (k + 1) out₀) × (length s ≤ length out)
+Inv-loop s a t0 out₀ t₀ root₀ k₀ out t root k =
+    (k + 1 ≤ length s) × (t ≡ timeAt s a t0 k) × (root ≡ sqrtOf binary64 (at a k))
+    × (length out ≡ length out₀) × (out ≡ filled (timeAt s a t0) (k + 1) out₀) × (length s ≤ length out)
 
 abbrev μ-loop : tie.MeasureT-loop
 μ-loop s a t0 out₀ t₀ root₀ k₀ out t root k = length s - k
@@ -30,7 +32,14 @@ sqrt-requires c κs = search needs
 
 loop-holds : tie.Need-loop-holds Inv-loop μ-loop
 unfolding timeAt
-loop-holds c = (search needs, refl, c .sqrt .ensures .is, refl, fill-first _ (c .before .before .before .before .before .args .out .now) _ (search needs) refl, simp length-set (search needs))
+loop-holds c = (
+  search needs,
+  refl,
+  c .sqrt .ensures .is,
+  refl,
+  fill-first _ (c .before .before .before .before .before .args .out .now) _ (search needs) refl,
+  simp length-set (search needs),
+)
 
 add-loop : tie.Need-add-loop Inv-loop μ-loop
 add-loop c = search needs

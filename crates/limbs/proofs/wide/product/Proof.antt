@@ -38,7 +38,9 @@ returns : tie.Need-returns
 returns c =
     let s = c .before .before in (
       high-is (s .args .a) (s .args .b) (s .fits .a .fits) (s .fits .b .fits),
-      low-is (s .args .a) (s .args .b) (s .fits .a .fits) (s .fits .b .fits) (c .before .wrapping-add-u64 .result) (c .wrapping-add-u642 .result) (c .before .wrapping-add-u64 .ensures) (c .wrapping-add-u642 .ensures),
+      low-is (s .args .a) (s .args .b) (s .fits .a .fits) (s .fits .b .fits)
+          (c .before .wrapping-add-u64 .result) (c .wrapping-add-u642 .result)
+          (c .before .wrapping-add-u64 .ensures) (c .wrapping-add-u642 .ensures),
     )
 
 pub product-spec : {M : Type 1} → statement M

@@ -17,12 +17,16 @@ normal-requires-3 c κs = search needs
 returns : tie.Need-returns
 returns c =
     let a = c .before .before .before .before .before .args in
-    c .normal3 .ensures ∙ sym (ap₂ (λ (p q : Bool). p && (q && isNormal (a .c))) (sym (c .before .before .before .before .normal .ensures) ∙ c .before .before .before .if1 .taken) (sym (c .before .before .normal2 .ensures) ∙ c .before .if2 .taken))
+    let first = sym (c .before .before .before .before .normal .ensures) ∙ c .before .before .before .if1 .taken in
+    let second = sym (c .before .before .normal2 .ensures) ∙ c .before .if2 .taken in
+    c .normal3 .ensures ∙ sym (ap₂ (λ (p q : Bool). p && (q && isNormal (a .c))) first second)
 
 returns-2 : tie.Need-returns-2
 returns-2 c =
     let a = c .before .before .before .before .args in
-    sym (ap₂ (λ (p q : Bool). p && (q && isNormal (a .c))) (sym (c .before .before .before .normal .ensures) ∙ c .before .before .if1 .taken) (sym (c .before .normal2 .ensures) ∙ c .if2 .left))
+    let first = sym (c .before .before .before .normal .ensures) ∙ c .before .before .if1 .taken in
+    let second = sym (c .before .normal2 .ensures) ∙ c .if2 .left in
+    sym (ap₂ (λ (p q : Bool). p && (q && isNormal (a .c))) first second)
 
 returns-3 : tie.Need-returns-3
 returns-3 c =

@@ -35,7 +35,8 @@ returns c =
     let p = c .before .before in
     let q = p .before .before .before in
     chained 13 (c .or2 .ensures) (c .before .unless3 .ensures) (p .every-entry2 .ensures)
-    (chained 14 (p .before .or .ensures) (p .before .before .unless2 .ensures) (q .every-entry .ensures) (tested 15 (q .before .unless .ensures) (q .before .before .every-pair .ensures)))
+    (chained 14 (p .before .or .ensures) (p .before .before .unless2 .ensures) (q .every-entry .ensures)
+    (tested 15 (q .before .unless .ensures) (q .before .before .every-pair .ensures)))
 
 pub check-entries-spec : {M : Type 1} → statement M
 check-entries-spec =

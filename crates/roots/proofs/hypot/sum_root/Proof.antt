@@ -8,14 +8,18 @@ use Rattle.roots.proofs.hypot.sum_root.Statement.{statement}
 use Rattle.roots.proofs.hypot.sum_root.Tie as tie
 
 at : (c : tie.After-plus)
-    → Given (c .before .before .before .before .args .x) (c .before .before .before .before .args .y) (c .before .before .before .before .args .s) (c .plus .result .hi * 2 ^ 16 % 2 ^ 64 + c .plus .result .lo / 2 ^ 48) (c .plus .result .lo % 2 ^ 48) (c .before .before .cut .result .rest)
+    → Given (c .before .before .before .before .args .x) (c .before .before .before .before .args .y) (c .before .before .before .before .args .s)
+    (c .plus .result .hi * 2 ^ 16 % 2 ^ 64 + c .plus .result .lo / 2 ^ 48) (c .plus .result .lo % 2 ^ 48) (c .before .before .cut .result .rest)
 at c =
     let w = c .plus .result in
     let x = c .before .product2 in
     let v = c .before .before .cut in
     let y = c .before .before .before .product in
     let s = c .before .before .before .before in
-    given (s .args .x) (s .args .y) (s .args .s) (s .pre .0) (s .pre .1) (s .pre .2) (s .pre .3) (y .result .hi) (y .result .lo) (v .result .whole .hi) (v .result .whole .lo) (v .result .rest) (x .result .hi) (x .result .lo) (w .hi) (w .lo) (y .ensures) (v .ensures) (x .ensures) (c .plus .ensures)
+    given (s .args .x) (s .args .y) (s .args .s) (s .pre .0) (s .pre .1) (s .pre .2) (s .pre .3)
+    (y .result .hi) (y .result .lo) (v .result .whole .hi) (v .result .whole .lo) (v .result .rest)
+    (x .result .hi) (x .result .lo) (w .hi) (w .lo)
+    (y .ensures) (v .ensures) (x .ensures) (c .plus .ensures)
 
 product-requires : tie.Need-product-requires
 product-requires c κs = search needs

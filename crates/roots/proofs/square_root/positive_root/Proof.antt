@@ -16,7 +16,8 @@ use Rattle.roots.proofs.square_root.positive_root.Tie as tie
 at : (c : tie.After-unpacked) → Parted (c .before .args .b) (c .unpacked .result .m) (c .unpacked .result .k)
 at c = parted (c .before .args .b) (c .unpacked .result .m) (c .unpacked .result .k) (c .before .pre .1) (c .unpacked .ensures)
 
-placed : (c : tie.After-unpacked) → (2 ^ 52 ≤ c .unpacked .result .m * 2 ^ ((c .unpacked .result .k + 1) % 2) % 2 ^ 64) × (c .unpacked .result .m * 2 ^ ((c .unpacked .result .k + 1) % 2) % 2 ^ 64 < 2 ^ 54)
+placed : (c : tie.After-unpacked) → (2 ^ 52 ≤ c .unpacked .result .m * 2 ^ ((c .unpacked .result .k + 1) % 2) % 2 ^ 64)
+    × (c .unpacked .result .m * 2 ^ ((c .unpacked .result .k + 1) % 2) % 2 ^ 64 < 2 ^ 54)
 placed c = placed-in (sizeAt binary64 (c .before .args .b)) (c .unpacked .result .m) (c .unpacked .result .k) (at c .value) (at c .full (c .before .pre .0)) (at c .under)
 
 unpacked-requires : tie.Need-unpacked-requires
