@@ -15,7 +15,7 @@ abbrev stations-read : tie.After-decode2 → tie.After-decode
 stations-read d = d .before .before .before
 
 abbrev started : tie.After-decode → tie.Start
-started d = let w = d .before .before .before .before .before in w .before .before .before .before
+started d = let known = d .before .before .before .before .before in known .before .before .before .before
 
 slice-aggregate-decode : tie.Need-slice-aggregate-decode
 slice-aggregate-decode c = search needs
