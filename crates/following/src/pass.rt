@@ -197,8 +197,8 @@ fn walked(
     while j < n {
         let v = time_of(source, x, j);
         w = interval::advance(w, s, a, t, v);
-        out[j] = station(s, a, t, w, v);
         c = tally(c, t, v, w.interval);
+        out[j] = station(s, a, t, w, v);
         let next = follow(s, a, t, w, source, x, j + 1, n, out);
         c = more_inside(c, next - (j + 1));
         j = next;

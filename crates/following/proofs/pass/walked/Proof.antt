@@ -44,19 +44,17 @@ time-of-requires c κs =
 advance-requires : tie.Need-advance-requires Inv-loop μ-loop
 advance-requires c κs = (search needs, search needs, c .before .before .loop .inv .3)
 
+tally-requires : tie.Need-tally-requires Inv-loop μ-loop
+tally-requires c κs = (search needs, c .advance .ensures .0, counts-bounded _ _ _ _ (c .before .before .before .loop .inv .4) (omega arith))
+
 station-requires : tie.Need-station-requires Inv-loop μ-loop
-station-requires c κs = (search needs, search needs, c .advance .ensures .0, c .advance .ensures .2)
+station-requires c κs = (search needs, search needs, c .before .advance .ensures .0, c .before .advance .ensures .2)
 
 mul-out : tie.Need-mul-out Inv-loop μ-loop
 mul-out c = search needs
 
 slice-write-out : tie.Need-slice-write-out Inv-loop μ-loop
 slice-write-out c = search needs
-
-tally-requires : tie.Need-tally-requires Inv-loop μ-loop
-tally-requires c κs =
-    let l = c .before .before .before .before .loop .inv in
-    (search needs, c .before .advance .ensures .0, counts-bounded _ _ _ _ (l .4) (omega arith))
 
 add-follow : tie.Need-add-follow Inv-loop μ-loop
 add-follow c = search needs
@@ -66,7 +64,7 @@ follow-requires c κs =
     let l = c .before .before .before .before .before .before .loop .inv in
     let w = c .before .before .before .advance .ensures in
     let v = c .before .before .before .before .time-of .ensures in
-    let e = fill-turn _ _ _ _ _ (omega arith) (l .6) (rw v at (c .before .before .station .ensures)) in
+    let e = fill-turn _ _ _ _ _ (omega arith) (l .6) (rw v at (c .before .station .ensures)) in
     let p = c .before .before .before .before .before .before .before .before .before .before .before .before .before .pre in
     (p .1, omega (arith, p .1, p .2), w .2, rw (w .1) (w .0), search needs, simp length-set (l .2), p .5, fill-stands _ _ _ _ e)
 
@@ -81,7 +79,7 @@ more-inside-requires c κs =
     let l = c .before .before .before .before .before .before .before .before .before .loop .inv in
     let v = c .before .before .before .before .before .before .before .time-of .ensures in
     let f = c .before .before .follow .ensures in
-    let d = (rw v at (c .before .before .before .before .tally .ensures)) ∙ counts-turn _ _ _ _ (l .4) in
+    let d = (rw v at (c .before .before .before .before .before .tally .ensures)) ∙ counts-turn _ _ _ _ (l .4) in
     (omega (arith, counts-written _ _ _ _ d, f .onward, f .within, l .1), counts-bounded _ _ _ _ d (omega arith))
 
 loop-less : tie.Need-loop-less Inv-loop μ-loop
@@ -92,8 +90,8 @@ loop-again c =
     let l = c .before .before .before .before .before .before .before .before .before .before .loop .inv in
     let v = c .before .before .before .before .before .before .before .before .time-of .ensures in
     let f = c .before .before .before .follow .ensures in
-    let e = fill-turn _ _ _ _ _ (omega arith) (l .6) (rw v at (c .before .before .before .before .before .before .station .ensures)) in
-    let d = (rw v at (c .before .before .before .before .before .tally .ensures)) ∙ counts-turn _ _ _ _ (l .4) in
+    let e = fill-turn _ _ _ _ _ (omega arith) (l .6) (rw v at (c .before .before .before .before .before .station .ensures)) in
+    let d = (rw v at (c .before .before .before .before .before .before .tally .ensures)) ∙ counts-turn _ _ _ _ (l .4) in
     let g = fill-on _ _ _ _ _ _ (f .onward) e (f .left) in
     let q = ap length g ∙ length-filled _ _ _ (omega (arith, f .within, l .2, l .5)) in
     let w = c .before .before .before .before .before .before .before .advance .ensures in
@@ -119,10 +117,10 @@ walked-spec =
     loop-holds
     time-of-requires
     advance-requires
+    tally-requires
     station-requires
     mul-out
     slice-write-out
-    tally-requires
     add-follow
     follow-requires
     add-more-inside
