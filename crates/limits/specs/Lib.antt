@@ -1,5 +1,3 @@
--- Document 01, "Recovery": bounds, certificate and projection, in its order. `RowByRow` is cited by inner functions alone.
+-- Document 01, "Recovery": bounds and projection, in its order.
 pub mod Bounds
-pub mod Certificate
 pub mod Projection
-pub mod RowByRow

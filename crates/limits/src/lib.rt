@@ -1,5 +1,4 @@
-// What a speed must keep: the bounds of the current station, and the rows. Document 01, "Recovery", decides: the certificate, and how a row cuts the speeds down.
+// What recovery is asked, the bounds of a station, and how a row cuts the speeds down. Document 01, "Recovery", decides.
 pub mod bounds;
-pub mod certificate;
 pub mod projection;
 pub mod request;

@@ -12,12 +12,12 @@ use Rattle.number.proofs.Fractions.{or-l, or-r, or-split}
 use Rattle.number.proofs.Order.{holds, fails, le-number, lt-le, eq-le, eq-ge, le-transitive, le-antisymmetric, lt-not-le, lt-or-le}
 use Rattle.rows.specs.Rows.{Row}
 use Rattle.number.specs.Doubles as doubles
-use Rattle.limits.specs.Certificate.{passes, certificate}
+use Rattle.certificates.specs.Certificate.{passes, certificate}
 use Rattle.search.specs.Search.{middle, stops, replaced, halved}
 use Rattle.limits.specs.declared.request.Request.{Request}
 use Rattle.search.specs.declared.halving.Ends.{Ends}
-use Rattle.limits.specs.declared.certificate.Certificate.{Certificate}
-use Rattle.limits.specs.declared.certificate.Certificate.the-variants.{Passed, Failed}
+use Rattle.certificates.specs.declared.certificate.Certificate.{Certificate}
+use Rattle.certificates.specs.declared.certificate.Certificate.the-variants.{Passed, Failed}
 use Rattle.passing.proofs.Digits.{rnd}
 use Rattle.passing.proofs.Mean.{bound, settle}
 use Rattle.passing.proofs.Middle.{half, mean}

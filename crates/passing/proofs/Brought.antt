@@ -15,10 +15,10 @@ use Rattle.number.specs.Doubles as doubles
 use Rattle.number.specs.Doubles.{_⊘_}
 use Rattle.limits.specs.Bounds.{lower, upper}
 use Rattle.rows.specs.Row.{empty, normalized, raw, rawNormalized}
-use Rattle.limits.specs.Certificate.{worseNormalized, worseRaw}
 use Rattle.limits.specs.Projection.{reach, incline, cutBy, narrowed, projected}
 use Rattle.limits.specs.declared.request.Request.{Request}
 use Rattle.limits.specs.declared.projection.Span.{Span}
+use Rattle.certificates.specs.Certificate.{worseNormalized, worseRaw}
 use Rattle.passing.specs.Demand.{Doubles}
 use Rattle.passing.proofs.Gathered.{fold-keeps}
 

@@ -13,8 +13,8 @@ use Rattle.number.proofs.Order.{fails, nought, number, finite-number, le-number
 use Rattle.number.proofs.Neighbour.{next-fits, next-less, next-nearest}
 use Rattle.rows.specs.Rows.{Row, rowsOf}
 use Rattle.limits.specs.Bounds.{upper}
-use Rattle.limits.specs.Certificate.{passes, certificate}
 use Rattle.limits.specs.Projection.{projected}
+use Rattle.certificates.specs.Certificate.{passes, certificate}
 use Rattle.search.specs.Search.{middle}
 use Rattle.topp2_ra.specs.Recovery.{recovered}
 use Rattle.limits.specs.declared.request.Request.{Request}

@@ -8,8 +8,8 @@ use lib.ListN.{length}
 use lib.Ieee.{Float}
 use Rattle.rows.specs.Rows.{Row, row, rowsOf, all}
 use Rattle.rows.specs.Row.{admits}
-use Rattle.limits.specs.Certificate.{between, passes}
 use Rattle.limits.specs.declared.request.Request.{Request}
+use Rattle.certificates.specs.Certificate.{between, passes}
 
 -- the rows of a list joined to whole rows
 rows-joined : (l m : List Float) → length l % 3 ≡ 0 → rowsOf (l ++ m) ≡ rowsOf l ++ rowsOf m

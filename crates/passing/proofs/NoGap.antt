@@ -14,8 +14,8 @@ use Rattle.rows.specs.Rows.{Row, all}
 use Rattle.number.specs.Doubles.{zero, _⊗_}
 use Rattle.limits.specs.Bounds.{lower, upper}
 use Rattle.rows.specs.Row.{norm, empty, inv, rawTol, fourFinite, numbersFinite, normalized, raw, rawNormalized, allWithin, admits}
-use Rattle.limits.specs.Certificate.{between, passes}
 use Rattle.limits.specs.declared.request.Request.{Request}
+use Rattle.certificates.specs.Certificate.{between, passes}
 
 -- ---- y lies between x and z, whichever of these is the lower
 

@@ -12,7 +12,7 @@ use Rattle.rows.proofs.Within.{one-truth}
 use Rattle.number.specs.Doubles as doubles
 use Rattle.limits.specs.Bounds.{lower, upper}
 use Rattle.rows.specs.Row.{admits}
-use Rattle.limits.specs.Certificate.{passes, worseNormalized, worseRaw, certificate}
+use Rattle.certificates.specs.Certificate.{passes, worseNormalized, worseRaw, certificate}
 use Rattle.search.specs.Search.{Asked, searched}
 use Rattle.limits.specs.Projection.{narrowed, projected, unreachable, flat}
 use Rattle.rows.specs.Row.{rowsNo}
@@ -21,8 +21,8 @@ use Rattle.topp2_ra.specs.Recovery.{requestNo, recovered}
 use Rattle.rows.specs.Row.{unfit, unmeetable}
 use Rattle.limits.specs.declared.request.Request.{Request}
 use Rattle.limits.specs.declared.projection.Span.{Span}
-use Rattle.limits.specs.declared.certificate.Certificate.{Certificate}
-use Rattle.limits.specs.declared.certificate.Certificate.the-variants.{Passed, Failed}
+use Rattle.certificates.specs.declared.certificate.Certificate.{Certificate}
+use Rattle.certificates.specs.declared.certificate.Certificate.the-variants.{Passed, Failed}
 use Rattle.passing.specs.Demand.{SameRows, Doubles}
 use Rattle.passing.proofs.Gathered.{any-same, all-same, fold-rows}
 use Rattle.passing.proofs.Brought.{asNormalized, asRaw, asLow, asHigh, brings-normalized, brings-raw, brings-low, brings-high}

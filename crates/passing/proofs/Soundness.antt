@@ -11,11 +11,11 @@ use Rattle.number.specs.Leaves.{nextDown}
 use Rattle.number.proofs.Neighbour.{next-fits}
 use Rattle.rows.specs.Rows.{Row, rowsOf}
 use Rattle.limits.specs.Bounds.{upper}
-use Rattle.limits.specs.Certificate.{passes, certificate}
 use Rattle.limits.specs.Projection.{projected}
 use Rattle.limits.specs.declared.request.Request.{Request}
-use Rattle.limits.specs.declared.certificate.Certificate.{Certificate}
-use Rattle.limits.specs.declared.certificate.Certificate.the-variants.{Passed, Failed}
+use Rattle.certificates.specs.Certificate.{passes, certificate}
+use Rattle.certificates.specs.declared.certificate.Certificate.{Certificate}
+use Rattle.certificates.specs.declared.certificate.Certificate.the-variants.{Passed, Failed}
 use Rattle.search.specs.Search.{Asked, middle, replaced, halved}
 use Rattle.search.specs.declared.halving.Ends.{Ends}
 use Rattle.search.specs.declared.answer.Answer.{Answer}

@@ -13,12 +13,12 @@ use Rattle.number.specs.Leaves.{nextDown}
 use Rattle.refusals.specs.Outcome.{answered}
 use Rattle.rows.specs.Rows.{Row, rowsOf, any}
 use Rattle.limits.specs.Bounds.{upper}
-use Rattle.limits.specs.Certificate.{certificate}
 use Rattle.limits.specs.Projection.{unreachable, flat, projected}
 use Rattle.limits.specs.declared.request.Request.{Request}
 use Rattle.limits.specs.declared.projection.Span.{Span}
-use Rattle.limits.specs.declared.certificate.Certificate.{Certificate}
-use Rattle.limits.specs.declared.certificate.Certificate.the-variants.{Passed, Failed}
+use Rattle.certificates.specs.Certificate.{certificate}
+use Rattle.certificates.specs.declared.certificate.Certificate.{Certificate}
+use Rattle.certificates.specs.declared.certificate.Certificate.the-variants.{Passed, Failed}
 use Rattle.search.specs.Search.{Asked, neighbours, tryNeighbours, middle, stops, halved, halvings, certifiedBy}
 use Rattle.search.specs.Search.{afterMiddle, withMiddle, tryMiddle, afterNeighbours, inOrder, searched}
 use Rattle.search.specs.Cap.{afterCap, withCap}

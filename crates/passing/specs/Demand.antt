@@ -8,9 +8,9 @@ use lib.ListN.{length}
 use lib.Ieee.{Float, binary64, le, fits, ofBits}
 use Rattle.rows.specs.Rows.{Row, rowsOf, wholeRows}
 use Rattle.limits.specs.Bounds.{upper}
-use Rattle.limits.specs.Certificate.{passes}
 use Rattle.limits.specs.Projection.{projected}
 use Rattle.limits.specs.declared.request.Request.{Request}
+use Rattle.certificates.specs.Certificate.{passes}
 use Rattle.topp2_ra.specs.Recovery.{recovered}
 
 -- each row of the one is a row of the other, bit for bit: "the same rows, in any order or number"

@@ -12,10 +12,10 @@ use Rattle.rows.specs.Rows.{Row, rowsOf, any}
 use Rattle.rows.specs.Row.{unfit, unmeetable, rowsNo}
 use Rattle.rows.specs.declared.block.Block.{Block}
 use Rattle.limits.specs.Bounds.{lower, upper}
-use Rattle.limits.specs.Certificate.{certificate}
 use Rattle.limits.specs.declared.request.Request.{Request}
-use Rattle.limits.specs.declared.certificate.Certificate.{Certificate}
-use Rattle.limits.specs.declared.certificate.Certificate.the-variants.{Passed, Failed}
+use Rattle.certificates.specs.Certificate.{certificate}
+use Rattle.certificates.specs.declared.certificate.Certificate.{Certificate}
+use Rattle.certificates.specs.declared.certificate.Certificate.the-variants.{Passed, Failed}
 use Rattle.tables.specs.Table.{blocks}
 use Rattle.tables.specs.Findings.{someUnfit, someUnmeetable, allBlocks, foundOf, found, foundIn}
 use Rattle.tables.specs.ByBlocks.{certificateOn}

@@ -5,8 +5,8 @@ use mathlib.Core.Bool.{Bool, true, false}
 use native.Mathlib.Omega.{arith}
 use lib.Ieee.{Float, binary64, lt}
 use Rattle.number.specs.Leaves.{nextDown}
-use Rattle.limits.specs.declared.certificate.Certificate.{Certificate}
-use Rattle.limits.specs.declared.certificate.Certificate.the-variants.{Passed, Failed}
+use Rattle.certificates.specs.declared.certificate.Certificate.{Certificate}
+use Rattle.certificates.specs.declared.certificate.Certificate.the-variants.{Passed, Failed}
 use Rattle.search.specs.Search.{Asked, middle, stops, replaced, halved, halvings, neighbours}
 use Rattle.search.specs.declared.halving.Ends.{Ends}
 use Rattle.search.specs.declared.neighbours.Near.the-variants.{Found, ToMiddle}

@@ -7,11 +7,11 @@ use Rattle.refusals.specs.Outcome.{answered}
 use Rattle.rows.specs.Rows.{Row, rowsOf, wholeRows, any}
 use Rattle.rows.specs.Row.{rowsNo}
 use Rattle.limits.specs.Bounds.{upper}
-use Rattle.limits.specs.Certificate.{certificate}
 use Rattle.limits.specs.Projection.{unreachable, flat, projected}
 use Rattle.limits.specs.declared.request.Request.{Request}
-use Rattle.limits.specs.declared.certificate.Certificate.{Certificate}
-use Rattle.limits.specs.declared.certificate.Certificate.the-variants.{Passed, Failed}
+use Rattle.certificates.specs.Certificate.{certificate}
+use Rattle.certificates.specs.declared.certificate.Certificate.{Certificate}
+use Rattle.certificates.specs.declared.certificate.Certificate.the-variants.{Passed, Failed}
 use Rattle.search.specs.Search.{searched}
 use Rattle.search.specs.declared.answer.Answer.{Answer}
 use Rattle.search.specs.declared.answer.Answer.the-variants.{Certified, Refused}

@@ -6,8 +6,8 @@ use Rattle.rows.specs.Rows.{any}
 use Rattle.rows.specs.declared.block.Block.{Block}
 use Rattle.limits.specs.Bounds.{upper}
 use Rattle.limits.specs.declared.request.Request.{Request}
-use Rattle.limits.specs.declared.certificate.Certificate.{Certificate}
-use Rattle.limits.specs.declared.certificate.Certificate.the-variants.{Passed, Failed}
+use Rattle.certificates.specs.declared.certificate.Certificate.{Certificate}
+use Rattle.certificates.specs.declared.certificate.Certificate.the-variants.{Passed, Failed}
 use Rattle.tables.specs.Findings.{Finding, someUnfit, someUnmeetable, allBlocks}
 use Rattle.tables.specs.ByBlocks.{certificateOn, projectedOn, faulty}
 use Rattle.tables.specs.declared.projection.Class.the-variants.{Unreachable, Flat}

@@ -6,8 +6,8 @@ use lib.Ieee.Scale.{finite}
 use Rattle.number.specs.Leaves.{nextDown}
 use Rattle.number.specs.Doubles.{half, _⊕_, _⊗_}
 use Rattle.limits.specs.declared.projection.Span.{Span}
-use Rattle.limits.specs.declared.certificate.Certificate.{Certificate}
-use Rattle.limits.specs.declared.certificate.Certificate.the-variants.{Passed, Failed}
+use Rattle.certificates.specs.declared.certificate.Certificate.{Certificate}
+use Rattle.certificates.specs.declared.certificate.Certificate.the-variants.{Passed, Failed}
 use Rattle.search.specs.declared.halving.Ends.{Ends}
 use Rattle.search.specs.declared.neighbours.Near.{Near}
 use Rattle.search.specs.declared.neighbours.Near.the-variants.{Found, ToMiddle}

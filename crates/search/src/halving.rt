@@ -1,6 +1,6 @@
 // The middle, and what follows it: halvings between the passing middle and the rejected upper end.
 use crate::answer::Answer;
-use limits::certificate::Certificate;
+use certificates::certificate::Certificate;
 use limits::projection::Span;
 use limits::request::Request;
 use tables::certificate;

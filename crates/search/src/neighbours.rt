@@ -1,5 +1,5 @@
 // The projected upper end and up to four next-down doubles. What follows them is told, and not called: the middle.
-use limits::certificate::Certificate;
+use certificates::certificate::Certificate;
 use limits::projection::Span;
 use limits::request::Request;
 use number::step;

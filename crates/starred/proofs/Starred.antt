@@ -8,7 +8,7 @@ use Rattle.roots.specs.Hypot.{hypotOf}
 use Rattle.fused.specs.Fused.{infPlus, fmaOf}
 use Rattle.topp2_ra.specs.Tolerant.{approxOrder}
 use Rattle.topp2_ra.specs.Recovery.{insidePrevious}
-use Rattle.limits.specs.Certificate.{between, passes, worseNormalized, worseRaw, certificate}
+use Rattle.certificates.specs.Certificate.{between, passes, worseNormalized, worseRaw, certificate}
 use Rattle.limits.specs.Projection.{reach, incline, cutBy, narrowed, unreachable, flatBy, flat}
 use Rattle.search.specs.Search.{neighbours, tryNeighbours, searched}
 use Rattle.search.specs.Cap.{afterCap, withCap}

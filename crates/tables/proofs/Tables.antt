@@ -13,12 +13,12 @@ use Rattle.rows.specs.declared.block.Block.{Block}
 use Rattle.rows.specs.declared.reading.Reading.the-variants.{Silent, Says}
 use Rattle.rows.specs.declared.judging.Judged.{Judged}
 use Rattle.rows.specs.declared.judging.Judged.the-variants.{Broken, Fits}
-use Rattle.limits.specs.Certificate.{between, certificate}
-use Rattle.limits.specs.RowByRow.{counted, countedReading, countedRow}
 use Rattle.limits.specs.declared.request.Request.{Request}
-use Rattle.limits.specs.declared.certificate.Certificate.{Certificate}
-use Rattle.limits.specs.declared.certificate.Certificate.the-variants.{Passed, Failed}
-use Rattle.limits.proofs.Certificates.{certificate-counted}
+use Rattle.certificates.specs.Certificate.{between, certificate}
+use Rattle.certificates.specs.RowByRow.{counted, countedReading, countedRow}
+use Rattle.certificates.specs.declared.certificate.Certificate.{Certificate}
+use Rattle.certificates.specs.declared.certificate.Certificate.the-variants.{Passed, Failed}
+use Rattle.certificates.proofs.Certificates.{certificate-counted}
 use Rattle.tables.specs.Table.{blocks}
 use Rattle.tables.specs.ByBlocks.{countedBlock, certificateOn}
 

@@ -11,13 +11,13 @@ use Rattle.rows.specs.Rows.{fold}
 use Rattle.rows.specs.Judging.{judged}
 use Rattle.rows.specs.declared.block.Block.{Block}
 use Rattle.limits.specs.Bounds.{lower, upper}
-use Rattle.limits.specs.Certificate.{between}
-use Rattle.limits.specs.RowByRow.{counted}
 use Rattle.limits.specs.Projection.{cutBy, flatBy, reachOf}
 use Rattle.limits.specs.declared.request.Request.{Request}
 use Rattle.limits.specs.declared.projection.Span.{Span}
-use Rattle.limits.specs.declared.certificate.Certificate.{Certificate}
-use Rattle.limits.specs.declared.certificate.Certificate.the-variants.{Passed, Failed}
+use Rattle.certificates.specs.Certificate.{between}
+use Rattle.certificates.specs.RowByRow.{counted}
+use Rattle.certificates.specs.declared.certificate.Certificate.{Certificate}
+use Rattle.certificates.specs.declared.certificate.Certificate.the-variants.{Passed, Failed}
 use Rattle.tables.specs.declared.certificate.Worst.{Worst}
 use Rattle.tables.specs.declared.projection.Class.{Class}
 use Rattle.tables.specs.declared.projection.Class.the-variants.{Unreachable, Flat}

@@ -1,7 +1,7 @@
 // The certificate, read off the table.
 use crate::table;
-use limits::certificate;
-use limits::certificate::Certificate;
+use certificates::certificate;
+use certificates::certificate::Certificate;
 use limits::request::Request;
 use rows::judging;
 use rows::judging::Judged;

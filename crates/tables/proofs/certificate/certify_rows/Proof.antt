@@ -8,8 +8,8 @@ use Rattle.number.specs.Doubles.{zero}
 use Rattle.tables.specs.Table.{blockAt, blocksFrom, blocksOf}
 use Rattle.rows.specs.Judging.{judged}
 use Rattle.tables.specs.ByBlocks.{fromZero, countedBlock}
-use Rattle.limits.specs.declared.certificate.Certificate.{Certificate}
-use Rattle.limits.specs.declared.certificate.Certificate.the-variants.{Passed}
+use Rattle.certificates.specs.declared.certificate.Certificate.{Certificate}
+use Rattle.certificates.specs.declared.certificate.Certificate.the-variants.{Passed}
 use Rattle.tables.proofs.Blocks.{blocks-all, fold-on, fold-done}
 use Rattle.tables.proofs.Worst.{zero-from}
 use Rattle.tables.proofs.Tables.{count-fits, count-broken, failed-stays}

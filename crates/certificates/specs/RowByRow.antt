@@ -8,8 +8,8 @@ use Rattle.rows.specs.declared.reading.Reading.{Reading}
 use Rattle.rows.specs.declared.reading.Reading.the-variants.{Unfit, Unmeetable, Silent, Says}
 use Rattle.rows.specs.declared.judging.Judged.{Judged}
 use Rattle.rows.specs.declared.judging.Judged.the-variants.{Broken, Fits}
-use Rattle.limits.specs.declared.certificate.Certificate.{Certificate}
-use Rattle.limits.specs.declared.certificate.Certificate.the-variants.{Passed, Failed}
+use Rattle.certificates.specs.declared.certificate.Certificate.{Certificate}
+use Rattle.certificates.specs.declared.certificate.Certificate.the-variants.{Passed, Failed}
 
 -- one row more, counted in the certificate so far
 unfoldable pub counted : Certificate → Judged → Certificate

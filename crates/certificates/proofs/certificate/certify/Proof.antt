@@ -1,8 +1,8 @@
 use borrow.Author.Needs.{needs}
 use Rattle.rows.specs.Rows.{rowsOf}
-use Rattle.limits.proofs.Certificates.{certificate-counted}
-use Rattle.limits.proofs.certificate.certify.Statement.{statement}
-use Rattle.limits.proofs.certificate.certify.Tie as tie
+use Rattle.certificates.proofs.Certificates.{certificate-counted}
+use Rattle.certificates.proofs.certificate.certify.Statement.{statement}
+use Rattle.certificates.proofs.certificate.certify.Tie as tie
 
 is-between-requires : tie.Need-is-between-requires
 is-between-requires c κs = search needs

@@ -4,11 +4,11 @@ use native.Mathlib.Omega.{arith}
 use lib.ListN.{length, drop}
 use Rattle.rows.specs.Rows.{rowsOf, fold}
 use Rattle.rows.proofs.RowScans.{fold-at, fold-end}
-use Rattle.limits.specs.RowByRow.{countedReading, countedRow}
-use Rattle.limits.specs.declared.certificate.Certificate.{Certificate}
+use Rattle.certificates.specs.RowByRow.{countedReading, countedRow}
+use Rattle.certificates.specs.declared.certificate.Certificate.{Certificate}
 use borrow.Author.Needs.{needs}
-use Rattle.limits.proofs.certificate.certify_rows.Statement.{statement}
-use Rattle.limits.proofs.certificate.certify_rows.Tie as tie
+use Rattle.certificates.proofs.certificate.certify_rows.Statement.{statement}
+use Rattle.certificates.proofs.certificate.certify_rows.Tie as tie
 
 abbrev Inv-loop : tie.InvT-loop
 Inv-loop tol a rows x c₀ i₀ c i =

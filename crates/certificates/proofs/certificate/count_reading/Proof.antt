@@ -1,7 +1,7 @@
-use Rattle.limits.specs.RowByRow.{countedReading}
+use Rattle.certificates.specs.RowByRow.{countedReading}
 use borrow.Author.Needs.{needs}
-use Rattle.limits.proofs.certificate.count_reading.Statement.{statement}
-use Rattle.limits.proofs.certificate.count_reading.Tie as tie
+use Rattle.certificates.proofs.certificate.count_reading.Statement.{statement}
+use Rattle.certificates.proofs.certificate.count_reading.Tie as tie
 
 enum-told : tie.Need-enum-told
 enum-told c = search needs

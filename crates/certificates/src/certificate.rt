@@ -1,6 +1,6 @@
 // The certificate: a plain function of record, rows and x, where the Rust has a closure.
-use crate::bounds;
-use crate::request::Request;
+use limits::bounds;
+use limits::request::Request;
 use number::pick;
 use number::size;
 use rows::judging;
@@ -10,8 +10,8 @@ use rows::reading::Reading;
 ghost use mathlib.Core.Path.{_≡_};
 ghost use Rattle.number.specs.Doubles.{zero};
 ghost use Rattle.rows.specs.Rows.{rowsOf, fold};
-ghost use Rattle.limits.specs.Certificate.{between, certificate};
-ghost use Rattle.limits.specs.RowByRow.{counted, countedReading, countedRow};
+ghost use Rattle.certificates.specs.Certificate.{between, certificate};
+ghost use Rattle.certificates.specs.RowByRow.{counted, countedReading, countedRow};
 
 // The worst figures over the rows where the speed passes.
 pub enum Certificate {

@@ -1,7 +1,7 @@
-use Rattle.limits.specs.Certificate.{between}
+use Rattle.certificates.specs.Certificate.{between}
 use borrow.Author.Needs.{needs}
-use Rattle.limits.proofs.certificate.is_between.Statement.{statement}
-use Rattle.limits.proofs.certificate.is_between.Tie as tie
+use Rattle.certificates.proofs.certificate.is_between.Statement.{statement}
+use Rattle.certificates.proofs.certificate.is_between.Tie as tie
 
 finite-requires : tie.Need-finite-requires
 finite-requires c κs = search needs

@@ -7,10 +7,10 @@ use Rattle.number.specs.Leaves.{maximum}
 use Rattle.number.specs.Doubles.{zero}
 use Rattle.rows.specs.Rows.{Row, fold, all}
 use Rattle.rows.specs.Row.{empty, normalized, raw, rawNormalized, admits}
 use Rattle.limits.specs.Bounds.{lower, upper}
 use Rattle.limits.specs.declared.request.Request.{Request}
-use Rattle.limits.specs.declared.certificate.Certificate.{Certificate}
-use Rattle.limits.specs.declared.certificate.Certificate.the-variants.{Passed, Failed}
+use Rattle.certificates.specs.declared.certificate.Certificate.{Certificate}
+use Rattle.certificates.specs.declared.certificate.Certificate.the-variants.{Passed, Failed}
 
 -- "lower ≤ x ≤ upper", x finite besides, and every row admits x
 unfoldable pub between : Request → Float → Bool

@@ -19,11 +19,11 @@ use Rattle.rows.specs.declared.reading.Reading.{Reading}
 use Rattle.rows.specs.declared.reading.Reading.the-variants.{Unfit, Unmeetable, Silent, Says}
 use Rattle.rows.specs.declared.judging.Judged.the-variants.{Broken, Fits}
 use Rattle.rows.proofs.Within.{one-truth, within-all}
-use Rattle.limits.specs.Certificate.{between, passes, worseNormalized, worseRaw, certificate}
-use Rattle.limits.specs.RowByRow.{counted, countedReading, countedRow}
 use Rattle.limits.specs.declared.request.Request.{Request}
-use Rattle.limits.specs.declared.certificate.Certificate.{Certificate}
-use Rattle.limits.specs.declared.certificate.Certificate.the-variants.{Passed, Failed}
+use Rattle.certificates.specs.Certificate.{between, passes, worseNormalized, worseRaw, certificate}
+use Rattle.certificates.specs.RowByRow.{counted, countedReading, countedRow}
+use Rattle.certificates.specs.declared.certificate.Certificate.{Certificate}
+use Rattle.certificates.specs.declared.certificate.Certificate.the-variants.{Passed, Failed}
 
 -- ---- what is known of a row that is not refused
 

@@ -1,7 +1,7 @@
-use Rattle.limits.specs.RowByRow.{counted}
+use Rattle.certificates.specs.RowByRow.{counted}
 use borrow.Author.Needs.{needs}
-use Rattle.limits.proofs.certificate.count.Statement.{statement}
-use Rattle.limits.proofs.certificate.count.Tie as tie
+use Rattle.certificates.proofs.certificate.count.Statement.{statement}
+use Rattle.certificates.proofs.certificate.count.Tie as tie
 
 enum-told : tie.Need-enum-told
 enum-told c = search needs
