@@ -18,12 +18,12 @@ pub enum Filled {
     Ready(usize),
 }
 
-// A row that cannot be met. Refusal 5 comes before refusal 6, whichever row is first.
+// A row that cannot be met, whichever row is first.
 fn refuse(s: Filled) -> Filled
     ensures { λ v. ⌜ ((l : List Float) → foundIn l v ≡ unmet (foundIn l s)) × (countOf v ≡ 0) ⌝ }
 {
     match s {
-        Filled::SomeUnfit => Filled::SomeUnfit,
+        Filled::SomeUnfit => Filled::SomeUnfit, // refusal 5 comes before refusal 6
         Filled::SomeUnmeetable => Filled::SomeUnmeetable,
         Filled::Ready(_) => Filled::SomeUnmeetable,
     }
