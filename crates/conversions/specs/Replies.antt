@@ -7,12 +7,12 @@ use lib.ListN.{length}
 use lib.Ieee.{Float}
 use Rattle.loops.specs.Upto.{filled}
 use Rattle.refusals.specs.Refusals.{unless, _or_, onlyIf}
-use Rattle.interpolation.specs.Slopes.{slope, slopesNo}
-use Rattle.interpolation.specs.Times.{timeAt, timesNo}
-use Rattle.interpolation.specs.declared.slopes.Sloped.{Sloped}
-use Rattle.interpolation.specs.declared.slopes.Sloped.the-variants as sloped
-use Rattle.interpolation.specs.declared.times.Timed.{Timed}
-use Rattle.interpolation.specs.declared.times.Timed.the-variants as timed
+use Rattle.sloping.specs.Slopes.{slope, slopesNo}
+use Rattle.timing.specs.Times.{timeAt, timesNo}
+use Rattle.sloping.specs.declared.slopes.Sloped.{Sloped}
+use Rattle.sloping.specs.declared.slopes.Sloped.the-variants as sloped
+use Rattle.timing.specs.declared.times.Timed.{Timed}
+use Rattle.timing.specs.declared.times.Timed.the-variants as timed
 use Rattle.byte_lists.specs.Bytes.{inEights, doublesOf, byteOf}
 
 -- what a call with this refusal number leaves: success writes the bytes of entry 0 .. entry (n - 1) at the front of the output and no more, refusal writes nothing

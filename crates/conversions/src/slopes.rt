@@ -1,14 +1,14 @@
 // a to b on byte lists.
 use byte_lists::doubles;
-use interpolation::slopes::Sloped;
-use interpolation::slopes::a_to_b_topp2;
 use profile::checks;
 use refusals::most;
+use sloping::slopes::Sloped;
+use sloping::slopes::a_to_b_topp2;
 ghost use mathlib.Core.Path.{_≡_};
 ghost use Prim.Native.Nat.{_/_, _≤_};
 ghost use lib.ListN.{length};
 ghost use Rattle.refusals.specs.Most.{mostStations};
-ghost use Rattle.interpolation.specs.Slopes.{slopesNo};
+ghost use Rattle.sloping.specs.Slopes.{slopesNo};
 ghost use Rattle.conversions.specs.Replies.{SlopesReplied, WholeSlopes, ByteSlopes, slopedNumber};
 
 fn number_of(r: Sloped) -> u64

@@ -1,14 +1,14 @@
 // s to t on byte lists.
 use byte_lists::doubles;
-use interpolation::times::Timed;
-use interpolation::times::s_to_t_topp2;
 use profile::checks;
 use refusals::most;
+use timing::times::Timed;
+use timing::times::s_to_t_topp2;
 ghost use mathlib.Core.Path.{_≡_};
 ghost use Prim.Native.Nat.{_/_, _≤_};
 ghost use lib.ListN.{length};
 ghost use Rattle.refusals.specs.Most.{mostStations};
-ghost use Rattle.interpolation.specs.Times.{timesNo};
+ghost use Rattle.timing.specs.Times.{timesNo};
 ghost use Rattle.conversions.specs.Replies.{TimesReplied, WholeTimes, ByteTimes, timedNumber};
 
 fn number_of(r: Timed) -> u64

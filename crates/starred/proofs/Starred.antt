@@ -17,8 +17,8 @@ use Rattle.rows.specs.Row.{numbersFinite, allWithin, admits, unfit, unmeetable,
 use Rattle.loops.specs.Upto.{every, count, seek, first, table, filled}
 use Rattle.loops.specs.Entries.{everyEntry, everyPair}
 use Rattle.profile.specs.Profile.{notBelowZero, notBothZero, lengthsNo, entriesNo, profileNo, speedNo}
-use Rattle.interpolation.specs.Slopes.{slope, slopesNo}
-use Rattle.interpolation.specs.Times.{leg, legTime, timeAt, timesFinite, startNo, timesNo}
+use Rattle.sloping.specs.Slopes.{slope, slopesNo}
+use Rattle.timing.specs.Times.{leg, legTime, timeAt, timesFinite, startNo, timesNo}
 use Rattle.pieces.specs.Pieces.{pieceOf, inverse2order, stationInside, pieceAt, stationIn}
 use Rattle.following.specs.Places.{intervalOf, isBefore, isInside, isPast, stationAt, countsOf, gridTime}
 use Rattle.sampling.specs.Samples.{timedNo}

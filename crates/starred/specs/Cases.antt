@@ -11,13 +11,13 @@ use Rattle.topp2_ra.specs.Recovery.{recovered}
 use Rattle.limits.specs.declared.request.Request.{Request}
 use Rattle.search.specs.declared.answer.Answer.{Answer}
 use Rattle.search.specs.declared.answer.Answer.the-variants.{Certified, Refused}
-use Rattle.interpolation.specs.Slopes.{Slopes}
-use Rattle.interpolation.specs.Times.{Times}
+use Rattle.sloping.specs.Slopes.{Slopes}
+use Rattle.timing.specs.Times.{Times}
 use Rattle.sampling.specs.List.{Listed}
 use Rattle.gridding.specs.Grid.{Gridded}
-use Rattle.interpolation.specs.declared.times.Timed.{Timed}
-use Rattle.interpolation.specs.declared.times.Timed.the-variants.{Done as Timed·Done}
-use Rattle.interpolation.specs.declared.slopes.Sloped.the-variants.{Done as Sloped·Done}
+use Rattle.timing.specs.declared.times.Timed.{Timed}
+use Rattle.timing.specs.declared.times.Timed.the-variants.{Done as Timed·Done}
+use Rattle.sloping.specs.declared.slopes.Sloped.the-variants.{Done as Sloped·Done}
 use Rattle.following.specs.declared.pass.Counts.{Counts}
 use Rattle.sampling.specs.declared.samples.Sampled.the-variants.{Done as Sampled·Done}
 

@@ -3,7 +3,7 @@ use mathlib.Core.Path.{_≡_, sym, _∙_}
 use mathlib.Core.List.{List}
 use native.Mathlib.Omega.{arith}
 use lib.ListN.{length}
-use Rattle.interpolation.specs.Slopes.{slopesNo}
+use Rattle.sloping.specs.Slopes.{slopesNo}
 use Rattle.profile.proofs.Profiles.{lengths-pass, lengths-stop}
 use Rattle.refusals.proofs.Outcomes.{or-stop}
 use Rattle.byte_lists.specs.Bytes.{doublesOf}

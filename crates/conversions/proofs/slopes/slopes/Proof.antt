@@ -6,9 +6,9 @@ use borrow.Author.Tests.{leb-true}
 use lib.ListN.{length, take}
 use lib.Ieee.{Float}
 use Rattle.refusals.proofs.Chains.{or-none, unless-none}
-use Rattle.interpolation.specs.Slopes.{slope, slopesNo, Slopes}
-use Rattle.interpolation.specs.declared.slopes.Sloped.{Sloped}
-use Rattle.interpolation.specs.declared.slopes.Sloped.the-variants.{Done, Refused}
+use Rattle.sloping.specs.Slopes.{slope, slopesNo, Slopes}
+use Rattle.sloping.specs.declared.slopes.Sloped.{Sloped}
+use Rattle.sloping.specs.declared.slopes.Sloped.the-variants.{Done, Refused}
 use Rattle.profile.proofs.Profiles.{Shaped, shaped}
 use Rattle.conversions.specs.Replies.{slopedNumber}
 use Rattle.byte_lists.proofs.Aside.{room-same, room-fits, Aside, told, writes}

@@ -4,7 +4,7 @@ use mathlib.Core.List.{List}
 use native.Mathlib.Omega.{arith}
 use lib.ListN.{length}
 use lib.Ieee.{Float}
-use Rattle.interpolation.specs.Times.{startNo, timesNo}
+use Rattle.timing.specs.Times.{startNo, timesNo}
 use Rattle.profile.proofs.Profiles.{lengths-pass, lengths-stop}
 use Rattle.refusals.proofs.Outcomes.{or-stop}
 use Rattle.byte_lists.specs.Bytes.{doublesOf}

@@ -5,10 +5,10 @@ use lib.ListN.{length, take}
 use lib.Ieee.{Float}
 use Rattle.refusals.specs.Refusals.{unless}
 use Rattle.refusals.proofs.Chains.{or-none}
-use Rattle.interpolation.proofs.Timing.{starts}
-use Rattle.interpolation.specs.Times.{timeAt, timesFinite, startNo, timesNo, Times}
-use Rattle.interpolation.specs.declared.times.Timed.{Timed}
-use Rattle.interpolation.specs.declared.times.Timed.the-variants.{Done, Refused}
+use Rattle.timing.proofs.Timing.{starts}
+use Rattle.timing.specs.Times.{timeAt, timesFinite, startNo, timesNo, Times}
+use Rattle.timing.specs.declared.times.Timed.{Timed}
+use Rattle.timing.specs.declared.times.Timed.the-variants.{Done, Refused}
 use Rattle.conversions.specs.Replies.{timedNumber}
 use Rattle.byte_lists.proofs.Aside.{room-same, room-fits, Aside, told, writes}
 use Rattle.conversions.proofs.Replies.{answer-number, replies, declines}

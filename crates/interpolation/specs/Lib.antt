@@ -1,2 +1,0 @@
-pub mod Slopes
-pub mod Times
