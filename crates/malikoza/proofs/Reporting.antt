@@ -17,7 +17,8 @@ use Rattle.passing.proofs.Reports.{Reported}
 use Rattle.passing.proofs.Soundness.{refusal-numbered, speed-double, sound}
 use Rattle.passing.proofs.Whole.{demanded}
 use Rattle.byte_lists.specs.Bytes.{inEights, doublesOf}
-use Rattle.replies.specs.AnswerTold.{stationOf, requestOf, recoveredBytes, Told}
+use Rattle.requests.specs.Patterns.{stationOf, requestOf}
+use Rattle.replies.specs.AnswerTold.{recoveredBytes, Told}
 use Rattle.malikoza.specs.Recover.{Recovering}
 
 patterns-are-doubles : (a : ℕ) (prev : Station) (lower upper cap : ℕ) (t : Tolerances) → Doubles (requestOf a prev (stationOf lower upper cap) t)

@@ -1,10 +1,10 @@
 // Recovery.
 use replies::recovery::recover_bytes;
-use replies::recovery::request_of;
-use replies::recovery::station_of;
 use replies::recovery::tell;
-use replies::recovery::tolerances_of;
-ghost use Rattle.replies.specs.AnswerTold.{stationOf, tolerancesOf, requestOf};
+use requests::patterns::request_of;
+use requests::patterns::station_of;
+use requests::patterns::tolerances_of;
+ghost use Rattle.requests.specs.Patterns.{stationOf, tolerancesOf, requestOf};
 ghost use Rattle.malikoza.specs.Recover.{Recovering};
 
 // Returns 0 and writes the four lent numbers, or returns the refusal number and writes nothing.

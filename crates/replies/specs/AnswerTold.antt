@@ -1,26 +1,14 @@
--- Recovery as a C caller has it: a request from patterns, rows from bytes, 01's number for each case of the answer, and what the four lent numbers then hold.
+-- Recovery as a C caller has it: rows from bytes, 01's number for each case of the answer, and what the four lent numbers then hold.
 use Prim.Native.Nat.{ℕ}
 use mathlib.Core.Path.{_≡_}
 use mathlib.Core.Bool.{cond}
 use mathlib.Core.List.{List}
-use lib.Ieee.{binary64, ofBits, toBits}
-use Rattle.limits.specs.declared.request.Station.{Station}
-use Rattle.limits.specs.declared.request.Tolerances.{Tolerances}
+use lib.Ieee.{binary64, toBits}
 use Rattle.limits.specs.declared.request.Request.{Request}
 use Rattle.search.specs.declared.answer.Answer.{Answer}
 use Rattle.search.specs.declared.answer.Answer.the-variants.{Certified, Refused}
 use Rattle.topp2_ra.specs.Recovery.{recovered}
 use Rattle.byte_lists.specs.Bytes.{inEights, doublesOf}
-
--- ---- the request that patterns make
-abbrev pub stationOf : ℕ → ℕ → ℕ → Station
-stationOf lower upper cap = record { interval = record { lower = ofBits binary64 lower; upper = ofBits binary64 upper }; cap = ofBits binary64 cap }
-
-abbrev pub tolerancesOf : ℕ → ℕ → ℕ → Tolerances
-tolerancesOf feas abs rel = record { feas = ofBits binary64 feas; abs = ofBits binary64 abs; rel = ofBits binary64 rel }
-
-abbrev pub requestOf : ℕ → Station → Station → Tolerances → Request
-requestOf a prev curr tolerances = record { «a_prev» = ofBits binary64 a; prev = prev; curr = curr; tolerances = tolerances }
 
 -- ---- 10: "a byte list of a length not divisible by eight; before all others"
 unfoldable pub recoveredBytes : Request → List ℕ → Answer

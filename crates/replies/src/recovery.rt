@@ -1,10 +1,6 @@
-// Recovery on patterns and a byte list of rows.
+// Recovery on a byte list of rows, and its answer told to lent numbers.
 use byte_lists::doubles;
-use limits::request::Interval;
 use limits::request::Request;
-use limits::request::Station;
-use limits::request::Tolerances;
-use number::pattern::double_of;
 use number::pattern::pattern_of;
 use refusals::most;
 use search::answer::Answer;
@@ -12,41 +8,7 @@ use topp2_ra::recovery::recover_forward_intersection;
 ghost use mathlib.Core.Path.{_≡_};
 ghost use Rattle.topp2_ra.specs.Recovery.{recovered};
 ghost use Rattle.byte_lists.specs.Bytes.{doublesOf};
-ghost use Rattle.replies.specs.AnswerTold.{stationOf, tolerancesOf, requestOf, recoveredBytes, Told};
-
-pub fn station_of(lower: u64, upper: u64, cap: u64) -> Station
-    ensures { λ r. ⌜ r ≡ stationOf lower upper cap ⌝ }
-{
-    let interval = Interval {
-        lower: double_of(lower),
-        upper: double_of(upper),
-    };
-    Station {
-        interval,
-        cap: double_of(cap),
-    }
-}
-
-pub fn tolerances_of(feas: u64, abs: u64, rel: u64) -> Tolerances
-    ensures { λ r. ⌜ r ≡ tolerancesOf feas abs rel ⌝ }
-{
-    Tolerances {
-        feas: double_of(feas),
-        abs: double_of(abs),
-        rel: double_of(rel),
-    }
-}
-
-pub fn request_of(a: u64, prev: Station, curr: Station, tolerances: Tolerances) -> Request
-    ensures { λ r. ⌜ r ≡ requestOf a prev curr tolerances ⌝ }
-{
-    Request {
-        a_prev: double_of(a),
-        prev,
-        curr,
-        tolerances,
-    }
-}
+ghost use Rattle.replies.specs.AnswerTold.{recoveredBytes, Told};
 
 // A list over its limit is refused without being decoded.
 fn decoded(q: Request, rows: &[u8]) -> Answer
