@@ -1,6 +1,6 @@
 // Eight bytes for each double, low byte first.
-use number::pattern::double_of;
-use number::pattern::pattern_of;
+use patterns::pattern::double_of;
+use patterns::pattern::pattern_of;
 ghost use mathlib.Core.Path.{_≡_};
 ghost use mathlib.Core.Bool.{_&&_};
 ghost use Prim.Native.Nat.{_+_, _*_, _/_, _%_, _≤_, _<_, _^_, min};

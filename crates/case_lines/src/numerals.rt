@@ -1,5 +1,5 @@
 // The numbers that words of a line stand for.
-use number::pattern::pattern_of;
+use patterns::pattern::pattern_of;
 use words::text::first_byte;
 
 // The digits read so far; after a point also the power of ten that they are to be divided by, which is 0 before it.

@@ -2,7 +2,7 @@
 use crate::letters;
 use crate::lists::apply;
 use calls::calling;
-use number::pattern::pattern_of;
+use patterns::pattern::pattern_of;
 use words::bytes::put;
 
 // Document 01's: a_prev 1, previous [0, 4] cap 9, current [0, 4] cap 3, tolerances 0.

@@ -1,8 +1,8 @@
 // The certificate: a plain function of record, rows and x, where the Rust has a closure.
 use limits::bounds;
 use limits::request::Request;
-use number::pick;
 use number::size;
+use picks::pick;
 use rows::judging;
 use rows::judging::Judged;
 use rows::reading;

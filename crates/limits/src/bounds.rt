@@ -1,7 +1,7 @@
 // The bounds of a station.
 use crate::request::Request;
 use crate::request::Station;
-use number::pick;
+use picks::pick;
 ghost use mathlib.Core.Path.{_≡_};
 ghost use Rattle.limits.specs.Bounds.{lowerEnd, upperEnd, lower, upper};
 

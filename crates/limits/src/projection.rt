@@ -1,5 +1,5 @@
 // The projection, of one row: it cuts the speeds down to those at most, or at least, r/c.
-use number::pick;
+use picks::pick;
 use rows::block::Block;
 ghost use mathlib.Core.Path.{_≡_};
 ghost use Rattle.limits.specs.Projection.{cutBy, flatBy, reachOf};

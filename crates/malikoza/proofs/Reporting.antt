@@ -17,7 +17,7 @@ use Rattle.passing.proofs.Reports.{Reported}
 use Rattle.passing.proofs.Soundness.{refusal-numbered, speed-double, sound}
 use Rattle.passing.proofs.Whole.{demanded}
 use Rattle.byte_lists.specs.Bytes.{inEights, doublesOf}
-use Rattle.requests.specs.Patterns.{stationOf, requestOf}
+use Rattle.requests.specs.FromPatterns.{stationOf, requestOf}
 use Rattle.replies.specs.AnswerTold.{recoveredBytes, Told}
 use Rattle.malikoza.specs.Recover.{Recovering}
 

@@ -1,11 +1,11 @@
 // The number leaves on patterns. They refuse nothing. Of the root, fused multiply-add and hypot the contract gives the pattern, and says that what it reads
 // as is nearest to the exact value, and that no other value is.
 use fused::multiply_add;
-use number::pattern::double_of;
-use number::pattern::pattern_of;
-use number::pick;
 use number::size;
 use number::step;
+use patterns::pattern::double_of;
+use patterns::pattern::pattern_of;
+use picks::pick;
 use roots::hypot;
 use roots::square_root;
 ghost use mathlib.Core.Path.{_≡_};

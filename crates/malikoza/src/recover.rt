@@ -1,10 +1,10 @@
 // Recovery.
 use replies::recovery::recover_bytes;
 use replies::recovery::tell;
-use requests::patterns::request_of;
-use requests::patterns::station_of;
-use requests::patterns::tolerances_of;
-ghost use Rattle.requests.specs.Patterns.{stationOf, tolerancesOf, requestOf};
+use requests::from_patterns::request_of;
+use requests::from_patterns::station_of;
+use requests::from_patterns::tolerances_of;
+ghost use Rattle.requests.specs.FromPatterns.{stationOf, tolerancesOf, requestOf};
 ghost use Rattle.malikoza.specs.Recover.{Recovering};
 
 // Returns 0 and writes the four lent numbers, or returns the refusal number and writes nothing.

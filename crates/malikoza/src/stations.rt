@@ -3,7 +3,7 @@ use byte_grids::grid::t_to_s_grid;
 use byte_samples::list::t_to_s_list;
 use conversions::slopes::a_to_b;
 use conversions::times::s_to_t;
-use number::pattern::double_of;
+use patterns::pattern::double_of;
 use replies::samples::tell;
 ghost use lib.Ieee.{binary64, ofBits};
 ghost use Rattle.conversions.specs.Replies.{ByteSlopes, ByteTimes};

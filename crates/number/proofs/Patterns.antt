@@ -14,7 +14,7 @@ use borrow.Author.Tests.{le-ltb, le-leb, lt-leb, ne-eqb, eq-eqb}
 use lib.Dec.{T, leb, eqb, leb→le, nleb→lt, nltb→le}
 use lib.Pow.{pow-add, pow-pos, pow-mono, shr-mono}
 use lib.IntN.{ℤ}
-use lib.Ieee.{Float, nan, inf, fin, Format, prec, emax, low, up, down, size, odd, round, fits, isNan, hid, ones, top, ofFields, ofBits, nanBits, toBits}
+use lib.Ieee.{Float, nan, inf, fin, Format, prec, emax, low, up, down, size, odd, round, fits, hid, ones, top, ofFields, ofBits, nanBits, toBits}
 use lib.Ieee.Fits.{up-pos, down-pos, two, round-fits}
 use lib.Ieee.Exact.{HasValue, odd-sign, round-exact}
 use lib.Ieee.Bits.{ofBits-toBits, toBits-lt, nanBits-is, nanBits-above}
@@ -125,14 +125,10 @@ infinite-negative f = infinite-signed f true
 
 -- ---- the sign, and NaN
 
--- what is left of a pattern without its sign, and the sign
+-- what is left of a pattern without its sign
 pub sign-off : (f : Format) (s : Bool) (b : ℕ) → b < top f → (cond s (top f) 0 + b) % top f ≡ b
 sign-off f true b l = add-mod-left (top f) b ∙ mod-eq-of-lt l
 sign-off f false b l = ap (λ (n : ℕ). n % top f) (zero-add b) ∙ mod-eq-of-lt l
-
-sign-test : (f : Format) (s : Bool) (b : ℕ) → b < top f → leb (top f) (cond s (top f) 0 + b) ≡ s
-sign-test f true b l = le-leb (top f) (top f + b) (le-add-right (top f) b)
-sign-test f false b l = ap (leb (top f)) (zero-add b) ∙ lt-leb (top f) b l
 
 pub not-nan-bits : (f : Format) (n : ℕ) → n % top f ≤ ones f * hid f → T (not (nanBits f n))
 not-nan-bits f n h = rw (nanBits-above f n, le-ltb (ones f * hid f) (n % top f) h) tt
@@ -261,13 +257,6 @@ pattern-pos f s m e b v = elim (eq-zero-or-pos b) [
       absurd (lt-irrefl 0 (subst (λ (n : ℕ). 0 < n) none some))
   | inr p ↦ p
 ]
-
--- a number's sign is its pattern's highest digit
-pub sign-bit : (f : Format) (x : Float) → T (fits f x) → T (not (isNan x)) → leb (top f) (toBits f x) ≡ negative x
-unfolding isNan negative
-sign-bit f nan F h = absurd h
-sign-bit f (inf s) F h = ap (leb (top f)) (infinite-written f s) ∙ sign-test f s (ones f * hid f) (below-sign f (ones f * hid f) (le-of-eq refl))
-sign-bit f (fin s m e) F h = let p = pattern-of f s m e F in ap (leb (top f)) (p .2) ∙ sign-test f s (p .0) (below-sign f (p .0) (omega (arith, p .1)))
 
 -- ---- a value that fits is known by its sign and its size
 

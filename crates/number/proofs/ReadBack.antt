@@ -1,22 +1,14 @@
--- Which patterns are a NaN's, and which one is written for it. What is written reads as it was.
+-- Which patterns are a NaN's. What is written reads as it was.
 use mathlib.Core.Path.{_≡_, refl, sym, ap, _∙_}
 use mathlib.Core.Bool.{true}
 use Prim.Native.Nat.{ℕ, _%_, _<_, _^_}
 use borrow.Author.Tests.{lt-ltb}
-use lib.Ieee.{Float, nan, binary64, ne, div, fits, ofBits, toBits}
+use lib.Ieee.{Float, nan, binary64, div, fits, ofBits, toBits}
 use lib.Ieee.Bits.{nanBits-is, nanBits-above, ofBits-toBits}
-use lib.Ieee.Compare.{differs-from-itself}
 use Rattle.number.proofs.Order.{holds, is-nan}
 
 pub nan-pattern : (n : ℕ) → 0x7ff0_0000_0000_0000 < n % 2 ^ 63 → ofBits binary64 n ≡ nan
 nan-pattern n h = is-nan (ofBits binary64 n) (holds (sym (nanBits-is binary64 n) ∙ nanBits-above binary64 n ∙ lt-ltb 0x7ff0_0000_0000_0000 (n % 2 ^ 63) h))
-
-nan-bits : 0x7ff8_0000_0000_0000 ≡ toBits binary64 nan
-unfolding toBits
-nan-bits = refl
-
-pub nan-written : (x : Float) → ne x x ≡ true → 0x7ff8_0000_0000_0000 ≡ toBits binary64 x
-nan-written x e = nan-bits ∙ sym (ap (toBits binary64) (differs-from-itself x (holds e)))
 
 pub zero-by-zero : div binary64 (ofBits binary64 0) (ofBits binary64 0) ≡ nan
 unfolding div ofBits

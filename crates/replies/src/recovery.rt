@@ -1,7 +1,7 @@
 // Recovery on a byte list of rows, and its answer told to lent numbers.
 use byte_lists::doubles;
 use limits::request::Request;
-use number::pattern::pattern_of;
+use patterns::pattern::pattern_of;
 use refusals::most;
 use search::answer::Answer;
 use topp2_ra::recovery::recover_forward_intersection;

@@ -1,1 +1,1 @@
-pub mod Patterns
+pub mod FromPatterns

@@ -10,7 +10,7 @@ ghost use Rattle.roots.specs.Hypot.{hypotOf, Spanned};
 use crate::floor_root;
 use limbs::wide;
 use limbs::wide::Wide;
-use number::pattern;
+use patterns::pattern;
 use rounding::packing;
 use rounding::packing::Parts;
 

@@ -1,6 +1,6 @@
 // Tolerant comparison, which the Rust calls `approx_order`. 01 gives its rule; each operation is rounded.
-use number::pick;
 use number::size;
+use picks::pick;
 ghost use mathlib.Core.Path.{_≡_};
 ghost use Rattle.topp2_ra.specs.Tolerant.{approxOrder, notLess, notGreater};
 

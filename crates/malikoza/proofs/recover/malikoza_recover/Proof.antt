@@ -1,4 +1,4 @@
-use Rattle.requests.specs.Patterns.{stationOf, tolerancesOf}
+use Rattle.requests.specs.FromPatterns.{stationOf, tolerancesOf}
 use Rattle.malikoza.proofs.Reporting.{promised}
 use borrow.Author.Needs.{needs}
 use Rattle.malikoza.proofs.recover.malikoza_recover.Statement.{statement}

@@ -1,6 +1,6 @@
 use borrow.Author.Needs.{needs}
-use Rattle.requests.proofs.patterns.tolerances_of.Statement.{statement}
-use Rattle.requests.proofs.patterns.tolerances_of.Tie as tie
+use Rattle.requests.proofs.from_patterns.tolerances_of.Statement.{statement}
+use Rattle.requests.proofs.from_patterns.tolerances_of.Tie as tie
 
 double-of-requires : tie.Need-double-of-requires
 double-of-requires c κs = search needs

@@ -1,10 +1,10 @@
--- `number::pick::negative` meets its contract. Assumes nothing.
+-- `picks::pick::negative` meets its contract. Assumes nothing.
 use borrow.Author.Needs.{needs}
 use lib.Ieee.{binary64}
-use Rattle.number.proofs.Patterns.{sign-bit}
 use Rattle.number.proofs.Order.{holds}
-use Rattle.number.proofs.pick.negative.Statement.{statement}
-use Rattle.number.proofs.pick.negative.Tie as tie
+use Rattle.picks.proofs.SignBit.{sign-bit}
+use Rattle.picks.proofs.pick.negative.Statement.{statement}
+use Rattle.picks.proofs.pick.negative.Tie as tie
 
 float-to-bits-result : tie.Need-float-to-bits-result
 float-to-bits-result c = search needs

@@ -1,11 +1,11 @@
--- `number::pick::minimum` meets its contract. Assumes nothing.
+-- `picks::pick::minimum` meets its contract. Assumes nothing.
 use mathlib.Core.Path.{sym, _∙_}
 use borrow.Author.Needs.{needs}
 use lib.Ieee.{binary64}
 use Rattle.number.proofs.Order.{holds, le-number, eq-le, not-nan}
 use Rattle.number.proofs.Picks.{minimum-less, minimum-more, minimum-negative, minimum-other, minimum-nan}
-use Rattle.number.proofs.pick.minimum.Statement.{statement}
-use Rattle.number.proofs.pick.minimum.Tie as tie
+use Rattle.picks.proofs.pick.minimum.Statement.{statement}
+use Rattle.picks.proofs.pick.minimum.Tie as tie
 
 returns : tie.Need-returns
 returns c = minimum-less _ _ (c .if1 .taken)

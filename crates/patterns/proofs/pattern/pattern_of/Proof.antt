@@ -1,9 +1,9 @@
--- `number::pattern::pattern_of` meets its contract.
+-- `patterns::pattern::pattern_of` meets its contract.
 use borrow.Author.Needs.{needs}
 use Rattle.number.proofs.Order.{equals-itself, not-nan}
-use Rattle.number.proofs.ReadBack.{nan-written}
-use Rattle.number.proofs.pattern.pattern_of.Statement.{statement}
-use Rattle.number.proofs.pattern.pattern_of.Tie as tie
+use Rattle.patterns.proofs.NanWritten.{nan-written}
+use Rattle.patterns.proofs.pattern.pattern_of.Statement.{statement}
+use Rattle.patterns.proofs.pattern.pattern_of.Tie as tie
 
 returns : tie.Need-returns
 returns c = nan-written (c .before .args .x) (c .if1 .taken)

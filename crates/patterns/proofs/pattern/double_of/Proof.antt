@@ -1,11 +1,11 @@
--- `number::pattern::double_of` meets its contract.
+-- `patterns::pattern::double_of` meets its contract.
 use mathlib.Core.Path.{sym, _∙_}
 use borrow.Author.Needs.{needs}
 use lib.Ieee.{binary64}
 use Rattle.number.proofs.Patterns.{not-nan-bits}
 use Rattle.number.proofs.ReadBack.{nan-pattern, zero-by-zero}
-use Rattle.number.proofs.pattern.double_of.Statement.{statement}
-use Rattle.number.proofs.pattern.double_of.Tie as tie
+use Rattle.patterns.proofs.pattern.double_of.Statement.{statement}
+use Rattle.patterns.proofs.pattern.double_of.Tie as tie
 
 returns : tie.Need-returns
 returns c = zero-by-zero ∙ sym (nan-pattern (c .before .args .n) (c .if1 .taken))

@@ -1,10 +1,10 @@
--- `number::pick::other` meets its contract. Assumes nothing.
+-- `picks::pick::other` meets its contract. Assumes nothing.
 use mathlib.Core.Path.{ap}
 use lib.Ieee.{isNan}
 use lib.Ieee.Compare.{differs-from-itself}
 use Rattle.number.proofs.Order.{holds, equals-itself, no-nan}
-use Rattle.number.proofs.pick.other.Statement.{statement}
-use Rattle.number.proofs.pick.other.Tie as tie
+use Rattle.picks.proofs.pick.other.Statement.{statement}
+use Rattle.picks.proofs.pick.other.Tie as tie
 
 returns : tie.Need-returns
 unfolding isNan

@@ -3,9 +3,9 @@ use limits::request::Interval;
 use limits::request::Request;
 use limits::request::Station;
 use limits::request::Tolerances;
-use number::pattern::double_of;
+use patterns::pattern::double_of;
 ghost use mathlib.Core.Path.{_≡_};
-ghost use Rattle.requests.specs.Patterns.{stationOf, tolerancesOf, requestOf};
+ghost use Rattle.requests.specs.FromPatterns.{stationOf, tolerancesOf, requestOf};
 
 pub fn station_of(lower: u64, upper: u64, cap: u64) -> Station
     ensures { λ r. ⌜ r ≡ stationOf lower upper cap ⌝ }

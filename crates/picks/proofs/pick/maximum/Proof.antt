@@ -1,11 +1,11 @@
--- `number::pick::maximum` meets its contract. Assumes nothing.
+-- `picks::pick::maximum` meets its contract. Assumes nothing.
 use mathlib.Core.Path.{sym, _∙_}
 use borrow.Author.Needs.{needs}
 use lib.Ieee.{binary64}
 use Rattle.number.proofs.Order.{holds, le-number, eq-le, not-nan}
 use Rattle.number.proofs.Picks.{maximum-less, maximum-more, maximum-negative, maximum-other, maximum-nan}
-use Rattle.number.proofs.pick.maximum.Statement.{statement}
-use Rattle.number.proofs.pick.maximum.Tie as tie
+use Rattle.picks.proofs.pick.maximum.Statement.{statement}
+use Rattle.picks.proofs.pick.maximum.Tie as tie
 
 returns : tie.Need-returns
 returns c = maximum-less _ _ (c .if1 .taken)
