@@ -34,13 +34,15 @@ loop-holds c =
 
 time-of-requires : tie.Need-time-of-requires Inv-loop μ-loop
 time-of-requires c κs =
-    let s = c .before .before .before .before .before .before .before .before .before in
-    reaches-less (s .args .source) (s .args .x .now) (s .args .n) (c .before .loop .j + 1) (s .pre .6) (omega arith)
+    let at = c .before in
+    let s = at .before .before .before .before .before .before .before .before in
+    reaches-less (s .args .source) (s .args .x .now) (s .args .n) (at .loop .j + 1) (s .pre .6) (omega arith)
 
 stays-requires : tie.Need-stays-requires Inv-loop μ-loop
 stays-requires c κs =
-    let l = inside-within _ _ (sym (c .before .before .before .before .is-inside .ensures) ∙ not-false _ (c .before .before .before .if1 .left)) in
-    omega (arith, c .before .before .before .before .before .before .before .before .before .before .pre .3)
+    let i = c .before .before .before .before in
+    let l = inside-within _ _ (sym (i .is-inside .ensures) ∙ not-false _ (c .before .before .before .if1 .left)) in
+    omega (arith, i .before .before .before .before .before .before .pre .3)
 
 same-length : tie.Need-same-length Inv-loop μ-loop
 same-length c = search needs
@@ -67,9 +69,11 @@ loop-less c = search needs
 
 loop-again : tie.Need-loop-again Inv-loop μ-loop
 loop-again c =
-    let l = c .before .before .before .before .before .loop .inv in
-    let p = c .before .before .before .before .before .before .before .before .before .before .before .before .before .pre in
-    let o = sym (c .before .before .before .before .before .before .before .is-inside .ensures) ∙ not-false _ (c .before .before .before .before .before .before .if1 .left) in
+    let at = c .before .before .before .before .before in
+    let l = at .loop .inv in
+    let inside = at .before .before in
+    let p = inside .before .before .before .before .before .before .pre in
+    let o = sym (inside .is-inside .ensures) ∙ not-false _ (at .before .if1 .left) in
     let v = c .before .before .before .time-of .ensures in
     let y = sym (c .before .before .stays .ensures) ∙ not-false _ (c .before .if2 .left) in
     let i = stays-inside _ _ _ _ _ (p .2) (p .3) o y in (

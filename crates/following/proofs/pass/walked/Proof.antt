@@ -61,11 +61,12 @@ add-follow c = search needs
 
 follow-requires : tie.Need-follow-requires Inv-loop μ-loop
 follow-requires c κs =
-    let l = c .before .before .before .before .before .before .loop .inv in
+    let at = c .before .before .before .before .before .before in
+    let l = at .loop .inv in
     let w = c .before .before .before .advance .ensures in
     let v = c .before .before .before .before .time-of .ensures in
     let e = fill-turn _ _ _ _ _ (omega arith) (l .6) (rw v at (c .before .station .ensures)) in
-    let p = c .before .before .before .before .before .before .before .before .before .before .before .before .before .pre in
+    let p = at .before .before .before .before .before .before .before .pre in
     (p .1, omega (arith, p .1, p .2), w .2, rw (w .1) (w .0), search needs, simp length-set (l .2), p .5, fill-stands _ _ _ _ e)
 
 add-more-inside : tie.Need-add-more-inside Inv-loop μ-loop
@@ -76,10 +77,11 @@ sub-more-inside c = omega (arith, c .before .before .follow .ensures .onward)
 
 more-inside-requires : tie.Need-more-inside-requires Inv-loop μ-loop
 more-inside-requires c κs =
-    let l = c .before .before .before .before .before .before .before .before .before .loop .inv in
-    let v = c .before .before .before .before .before .before .before .time-of .ensures in
+    let counted = c .before .before .before .before .before in
+    let l = counted .before .before .before .before .loop .inv in
+    let v = counted .before .before .time-of .ensures in
     let f = c .before .before .follow .ensures in
-    let d = (rw v at (c .before .before .before .before .before .tally .ensures)) ∙ counts-turn _ _ _ _ (l .4) in
+    let d = (rw v at (counted .tally .ensures)) ∙ counts-turn _ _ _ _ (l .4) in
     (omega (arith, counts-written _ _ _ _ d, f .onward, f .within, l .1), counts-bounded _ _ _ _ d (omega arith))
 
 loop-less : tie.Need-loop-less Inv-loop μ-loop
@@ -87,14 +89,15 @@ loop-less c = omega (arith, c .before .before .before .follow .ensures .onward, 
 
 loop-again : tie.Need-loop-again Inv-loop μ-loop
 loop-again c =
-    let l = c .before .before .before .before .before .before .before .before .before .before .loop .inv in
-    let v = c .before .before .before .before .before .before .before .before .time-of .ensures in
+    let counted = c .before .before .before .before .before .before in
+    let l = counted .before .before .before .before .loop .inv in
+    let v = counted .before .before .time-of .ensures in
     let f = c .before .before .before .follow .ensures in
     let e = fill-turn _ _ _ _ _ (omega arith) (l .6) (rw v at (c .before .before .before .before .before .station .ensures)) in
-    let d = (rw v at (c .before .before .before .before .before .before .tally .ensures)) ∙ counts-turn _ _ _ _ (l .4) in
+    let d = (rw v at (counted .tally .ensures)) ∙ counts-turn _ _ _ _ (l .4) in
     let g = fill-on _ _ _ _ _ _ (f .onward) e (f .left) in
     let q = ap length g ∙ length-filled _ _ _ (omega (arith, f .within, l .2, l .5)) in
-    let w = c .before .before .before .before .before .before .before .advance .ensures in
+    let w = counted .before .advance .ensures in
     let n = counts-up-to _ _ _ _ _ _ d (f .onward) (f .inside) (c .more-inside .ensures) in
     (f .within, l .1, omega (arith, q, l .2, l .5), w .2, n, q, g)
 
