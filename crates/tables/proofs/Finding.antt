@@ -15,7 +15,7 @@ use Rattle.rows.specs.declared.reading.Reading.the-variants.{Unfit, Unmeetable,
 use Rattle.tables.specs.Table.{blocks}
 use Rattle.tables.specs.Findings.{Finding, someUnfit, someUnmeetable, allBlocks, foundOf, found, start, unmet, withBlock, foundReading, foundRow}
 
-pub reading-unfit : (r : Reading) → foundReading someUnfit r ≡ someUnfit
+reading-unfit : (r : Reading) → foundReading someUnfit r ≡ someUnfit
 unfolding foundReading unmet withBlock
 reading-unfit Unfit = refl
 reading-unfit Unmeetable = refl
@@ -62,7 +62,7 @@ module _ (tol a : Float) where
       go false false true rest = rest bs
       go false false false rest = rest (bs ++ (blockOf tol a w ∷ [])) ∙ ap (outcome rows) (append-assoc bs (blockOf tol a w ∷ []) (blocks tol a rows))
 
-  pub pass-found : (rows : List Row) → pass start rows ≡ foundOf tol a rows
+  pass-found : (rows : List Row) → pass start rows ≡ foundOf tol a rows
   unfolding foundOf
   pass-found rows = rows-found [] rows
 
