@@ -18,7 +18,7 @@ pub enum Filled {
     Ready(usize),
 }
 
-// A row that cannot be met, whichever row is first.
+// A row that cannot be met: an unfit one decides, whichever of them is first.
 fn refuse(s: Filled) -> Filled
     ensures { λ v. ⌜ ((l : List Float) → foundIn l v ≡ unmet (foundIn l s)) × (countOf v ≡ 0) ⌝ }
 {
