@@ -1,22 +1,15 @@
 -- A profile: stations s and squared speeds a, 2 to 4,096 of each.
 use Prim.Native.Nat.{ℕ}
-use mathlib.Core.Bool.{Bool, not, _&&_}
+use mathlib.Core.Bool.{_&&_}
 use mathlib.Core.List.{List}
 use lib.Dec.{leb, eqb}
 use lib.ListN.{length}
-use lib.Ieee.{Float, lt, eq}
+use lib.Ieee.{Float, lt}
 use lib.Ieee.Scale.{finite}
-use Rattle.number.specs.Doubles.{zero}
 use Rattle.loops.specs.Entries.{everyEntry, everyPair}
 use Rattle.refusals.specs.Refusals.{unless, _or_}
 use Rattle.refusals.specs.Most.{mostStations}
-
--- minus zero is not below zero
-unfoldable pub notBelowZero : Float → Bool
-notBelowZero x = not (lt x zero)
-
-unfoldable pub notBothZero : Float → Float → Bool
-notBothZero x y = not (eq x zero && eq y zero)
+use Rattle.list_tests.specs.Tests.{notBelowZero, notBothZero}
 
 -- 11 and 12, of n stations and m speeds
 unfoldable pub lengthsNo : ℕ → ℕ → ℕ

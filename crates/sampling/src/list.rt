@@ -3,7 +3,7 @@ use crate::samples;
 use crate::samples::Sampled;
 use following::pass;
 use following::pass::Source;
-use profile::checks;
+use list_tests::tests;
 use refusals::chain::or;
 use refusals::chain::unless;
 use refusals::most;
@@ -21,7 +21,7 @@ fn samples_refusal(x: &[f64], room: usize) -> u64
         return 28;
     }
     let short = unless(x.len() <= room, 29);
-    or(checks::check_rising(x, 26, 27), short)
+    or(tests::check_rising(x, 26, 27), short)
 }
 
 // 11 to 15, 17, 18, 20 to 22, then the list's

@@ -1,5 +1,6 @@
 // t to s: the answer, and what both modes refuse.
 use following::pass::Counts;
+use list_tests::tests;
 use profile::checks;
 use refusals::chain::or;
 ghost use mathlib.Core.Path.{_≡_};
@@ -21,7 +22,7 @@ fn times_refusal(n: usize, t: &[f64]) -> u64
     ensures { λ r. ⌜ r ≡ unless (eqb (length (now (t .entry))) n) 20 or unless (everyEntry finite (now (t .entry))) 21 or unless (everyPair lt (now (t .entry))) 22 ⌝ }
 {
     if t.len() == n {
-        checks::check_rising(t, 21, 22)
+        tests::check_rising(t, 21, 22)
     } else {
         20
     }

@@ -16,7 +16,8 @@ use Rattle.topp2_ra.specs.Recovery.{tolerance, tolerancesGood, noneNan, inputsG
 use Rattle.rows.specs.Row.{numbersFinite, allWithin, admits, unfit, unmeetable, rowsNo}
 use Rattle.loops.specs.Upto.{every, count, seek, first, table, filled}
 use Rattle.loops.specs.Entries.{everyEntry, everyPair}
-use Rattle.profile.specs.Profile.{notBelowZero, notBothZero, lengthsNo, entriesNo, profileNo, speedNo}
+use Rattle.list_tests.specs.Tests.{notBelowZero, notBothZero}
+use Rattle.profile.specs.Profile.{lengthsNo, entriesNo, profileNo, speedNo}
 use Rattle.sloping.specs.Slopes.{slope, slopesNo}
 use Rattle.timing.specs.Times.{leg, legTime, timeAt, timesFinite, startNo, timesNo}
 use Rattle.pieces.specs.Pieces.{pieceOf, inverse2order, stationInside, pieceAt, stationIn}

@@ -1,7 +1,8 @@
 // s to t: the time at each station, added up from the left.
+use list_tests::tests;
+use list_tests::tests::Entry;
 use number::size;
 use profile::checks;
-use profile::checks::Entry;
 use refusals::chain::or;
 use refusals::chain::unless;
 use refusals::most;
@@ -83,7 +84,7 @@ fn settle(s: &[f64], a: &[f64], t0: f64, out: &mut [f64]) -> Timed
     let mut times = [0.0; most::STATIONS];
     let last = fill(s, a, t0, &mut times);
     let n = s.len();
-    if checks::every_entry(Entry::Finite, &times[..n]) {
+    if tests::every_entry(Entry::Finite, &times[..n]) {
         copy(&times[..n], out);
         return Timed::Done(last);
     }

@@ -1,8 +1,8 @@
--- `profile::checks::check_rising` meets its contract. Assumes nothing.
+-- `list_tests::tests::check_rising` meets its contract. Assumes nothing.
 use borrow.Author.Needs.{needs}
 use Rattle.refusals.proofs.Chains.{tested, chained}
-use Rattle.profile.proofs.checks.check_rising.Statement.{statement}
-use Rattle.profile.proofs.checks.check_rising.Tie as tie
+use Rattle.list_tests.proofs.tests.check_rising.Statement.{statement}
+use Rattle.list_tests.proofs.tests.check_rising.Tie as tie
 
 every-pair-requires : tie.Need-every-pair-requires
 every-pair-requires c κs = search needs

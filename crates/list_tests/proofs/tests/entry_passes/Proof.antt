@@ -1,8 +1,8 @@
--- `profile::checks::entry_passes` meets its contract. Assumes nothing.
+-- `list_tests::tests::entry_passes` meets its contract. Assumes nothing.
 use borrow.Author.Needs.{needs}
-use Rattle.profile.specs.Profile.{notBelowZero}
-use Rattle.profile.proofs.checks.entry_passes.Statement.{statement}
-use Rattle.profile.proofs.checks.entry_passes.Tie as tie
+use Rattle.list_tests.specs.Tests.{notBelowZero}
+use Rattle.list_tests.proofs.tests.entry_passes.Statement.{statement}
+use Rattle.list_tests.proofs.tests.entry_passes.Tie as tie
 
 enum-told : tie.Need-enum-told
 enum-told c = search needs

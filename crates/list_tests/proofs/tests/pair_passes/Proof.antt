@@ -1,8 +1,8 @@
--- `profile::checks::pair_passes` meets its contract. Assumes nothing.
+-- `list_tests::tests::pair_passes` meets its contract. Assumes nothing.
 use borrow.Author.Needs.{needs}
-use Rattle.profile.specs.Profile.{notBothZero}
-use Rattle.profile.proofs.checks.pair_passes.Statement.{statement}
-use Rattle.profile.proofs.checks.pair_passes.Tie as tie
+use Rattle.list_tests.specs.Tests.{notBothZero}
+use Rattle.list_tests.proofs.tests.pair_passes.Statement.{statement}
+use Rattle.list_tests.proofs.tests.pair_passes.Tie as tie
 
 enum-told : tie.Need-enum-told
 enum-told c = search needs
