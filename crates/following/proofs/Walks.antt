@@ -101,6 +101,9 @@ inside-more t f start j h i k l g =
     let m : k ≤ j = omega arith in
     ⊎-elim (λ e. rw e i) (h k l) (eq-or-lt-of-le m)
 
+pub inside-first : (t : List Float) (f : ℕ → Float) (j r : ℕ) → isInside t (f j) ≡ true → AllInside t f (j + 1) r → AllInside t f j r
+inside-first t f j r i h k l g = ⊎-elim (λ e. rw (← e) i) (λ m. h k (omega arith) g) (eq-or-lt-of-le l)
+
 pub counts-none : (t : List Float) (f : ℕ → Float) → record { before = 0; inside = 0; past = 0; written = 0 } ≡ countsOf t f 0 0
 unfolding countsOf count
 counts-none t f = refl

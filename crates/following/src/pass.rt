@@ -4,7 +4,7 @@ use crate::interval::Cursor;
 use pieces::pair;
 use refusals::most;
 ghost use mathlib.Core.Path.{_≡_};
-ghost use mathlib.Core.Bool.{not, cond, _&&_};
+ghost use mathlib.Core.Bool.{true, not, cond, _&&_};
 ghost use Prim.Native.Nat.{_+_, _≤_, _<_};
 ghost use lib.ListN.{length};
 ghost use Rattle.loops.specs.Upto.{filled};
@@ -132,7 +132,7 @@ fn stays(t: &[f64], w: Cursor, x: f64) -> bool
     }
 }
 
-// The entries from `start` on, as long as their times stay. None does where the walk's time is before or past.
+// The entries from `start` on, as long as their times stay, where the walk's time is inside.
 fn follow(
     s: &[f64],
     a: &[f64],
@@ -145,16 +145,13 @@ fn follow(
     out: &mut [f64],
 ) -> usize
     requires { ⌜ (length (now t) ≡ length (now s)) × (1 ≤ length (now t))
-        × Standing (now s) (now a) (now t) w × (w .interval ≡ intervalOf (now t) (w .time))
+        × Standing (now s) (now a) (now t) w × (w .interval ≡ intervalOf (now t) (w .time)) × (isInside (now t) (w .time) ≡ true)
         × (start ≤ n) × (n ≤ length (now out)) × Reaches source (now x) n
         × (now out ≡ filled (stationOf (now s) (now a) (now t) source (now x)) start (now out)) ⌝ }
     ensures { λ r. ⌜ Followed (now (t .entry)) (timeOf source (now (x .entry)))
         (stationOf (now (s .entry)) (now (a .entry)) (now (t .entry)) source (now (x .entry)))
         start n r (now (out .entry)) (now (out .exit)) ⌝ }
 {
-    if !is_inside(t, w.time, w.interval) {
-        return start;
-    }
     let mut j = start;
     while j < n {
         let y = time_of(source, x, j);
@@ -197,11 +194,16 @@ fn walked(
     while j < n {
         let v = time_of(source, x, j);
         w = interval::advance(w, s, a, t, v);
-        c = tally(c, t, v, w.interval);
+        let inside = is_inside(t, v, w.interval);
         out[j] = station(s, a, t, w, v);
-        let next = follow(s, a, t, w, source, x, j + 1, n, out);
-        c = more_inside(c, next - (j + 1));
-        j = next;
+        if inside {
+            let next = follow(s, a, t, w, source, x, j + 1, n, out);
+            c = more_inside(c, next - j);
+            j = next;
+        } else {
+            c = tally(c, t, v, w.interval);
+            j += 1;
+        }
     }
     c
 }

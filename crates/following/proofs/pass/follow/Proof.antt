@@ -19,36 +19,27 @@ Inv-loop s a t w source x start n out₀ j₀ out j =
 abbrev μ-loop : tie.MeasureT-loop
 μ-loop s a t w source x start n out₀ j₀ out j = n - j
 
-is-inside-requires : tie.Need-is-inside-requires Inv-loop μ-loop
-is-inside-requires c κs = search needs
-
-returns : tie.Need-returns Inv-loop μ-loop
-returns c =
-    let p = c .before .before .before .before .before .before .before .pre in
-    record { onward = search needs; within = p .4; inside = λ k l g. absurd (omega arith); left = p .7 }
-
 loop-holds : tie.Need-loop-holds Inv-loop μ-loop
 loop-holds c =
-    let p = c .before .before .before .before .before .before .before .pre in
-    (search needs, p .4, refl, λ k l g. absurd (omega arith), p .7)
+    let p = c .before .before .before .before .before .pre in
+    (search needs, p .5, refl, λ k l g. absurd (omega arith), p .8)
 
 time-of-requires : tie.Need-time-of-requires Inv-loop μ-loop
 time-of-requires c κs =
     let at = c .before in
-    let s = at .before .before .before .before .before .before .before .before in
-    reaches-less (s .args .source) (s .args .x .now) (s .args .n) (at .loop .j + 1) (s .pre .6) (omega arith)
+    let s = at .before .before .before .before .before .before in
+    reaches-less (s .args .source) (s .args .x .now) (s .args .n) (at .loop .j + 1) (s .pre .7) (omega arith)
 
 stays-requires : tie.Need-stays-requires Inv-loop μ-loop
 stays-requires c κs =
-    let i = c .before .before .before .before in
-    let l = inside-within _ _ (sym (i .is-inside .ensures) ∙ not-false _ (c .before .before .before .if1 .left)) in
-    omega (arith, i .before .before .before .before .before .before .pre .3)
+    let p = c .before .before .before .before .before .before .before .before .pre in
+    omega (arith, inside-within _ _ (p .4), p .3)
 
 same-length : tie.Need-same-length Inv-loop μ-loop
 same-length c = search needs
 
-returns-2 : tie.Need-returns-2 Inv-loop μ-loop
-returns-2 c =
+returns : tie.Need-returns Inv-loop μ-loop
+returns c =
     let l = c .before .before .before .before .loop .inv in
     record { onward = l .0; within = l .1; inside = l .3; left = l .4 }
 
@@ -71,24 +62,22 @@ loop-again : tie.Need-loop-again Inv-loop μ-loop
 loop-again c =
     let at = c .before .before .before .before .before in
     let l = at .loop .inv in
-    let inside = at .before .before in
-    let p = inside .before .before .before .before .before .before .pre in
-    let o = sym (inside .is-inside .ensures) ∙ not-false _ (at .before .if1 .left) in
+    let p = at .before .before .before .before .before .before .pre in
     let v = c .before .before .before .time-of .ensures in
-    let y = sym (c .before .before .stays .ensures) ∙ not-false _ (c .before .if2 .left) in
-    let i = stays-inside _ _ _ _ _ (p .2) (p .3) o y in (
+    let y = sym (c .before .before .stays .ensures) ∙ not-false _ (c .before .if1 .left) in
+    let i = stays-inside _ _ _ _ _ (p .2) (p .3) (p .4) y in (
       search needs,
       search needs,
       simp length-set (l .2),
       inside-more _ _ _ _ (l .3) (rw v at i),
-      fill-turn _ _ _ _ _ (omega arith) (l .4) (rw v at (c .inside .ensures ∙ station-held _ _ _ _ _ (p .0) (same-interval _ _ _ _ _ (p .2) (p .3) o y) (p .2) i)),
+      fill-turn _ _ _ _ _ (omega arith) (l .4) (rw v at (c .inside .ensures ∙ station-held _ _ _ _ _ (p .0) (same-interval _ _ _ _ _ (p .2) (p .3) (p .4) y) (p .2) i)),
     )
 
 same-length-2 : tie.Need-same-length-2 Inv-loop μ-loop
 same-length-2 c = search needs
 
-returns-3 : tie.Need-returns-3 Inv-loop μ-loop
-returns-3 c =
+returns-2 : tie.Need-returns-2 Inv-loop μ-loop
+returns-2 c =
     let l = c .before .loop .inv in
     record { onward = l .0; within = l .1; inside = l .3; left = l .4 }
 
@@ -98,13 +87,11 @@ follow-spec =
     (tie.spec
     Inv-loop
     μ-loop
-    is-inside-requires
-    returns
     loop-holds
     time-of-requires
     stays-requires
     same-length
-    returns-2
+    returns
     inside-requires
     mul-out
     slice-write-out
@@ -112,4 +99,4 @@ follow-spec =
     loop-less
     loop-again
     same-length-2
-    returns-3)
+    returns-2)

@@ -9,7 +9,7 @@ use Rattle.loops.proofs.Filling.{length-filled, fill-none, fill-turn, fill-on, 
 use Rattle.refusals.specs.Most.{mostSamples}
 use Rattle.following.specs.Places.{countsOf}
 use Rattle.following.specs.Following.{timeOf, stationOf, Standing}
-use Rattle.following.proofs.Walks.{reaches-less, counts-none, counts-turn, counts-up-to, counts-written, counts-bounded}
+use Rattle.following.proofs.Walks.{reaches-less, inside-first, counts-none, counts-turn, counts-up-to, counts-written, counts-bounded}
 use Rattle.following.proofs.pass.walked.Statement.{statement}
 use Rattle.following.proofs.pass.walked.Tie as tie
 
@@ -44,8 +44,8 @@ time-of-requires c κs =
 advance-requires : tie.Need-advance-requires Inv-loop μ-loop
 advance-requires c κs = (search needs, search needs, c .before .before .loop .inv .3)
 
-tally-requires : tie.Need-tally-requires Inv-loop μ-loop
-tally-requires c κs = (search needs, c .advance .ensures .0, counts-bounded _ _ _ _ (c .before .before .before .loop .inv .4) (omega arith))
+is-inside-requires : tie.Need-is-inside-requires Inv-loop μ-loop
+is-inside-requires c κs = (search needs, c .advance .ensures .0)
 
 station-requires : tie.Need-station-requires Inv-loop μ-loop
 station-requires c κs = (search needs, search needs, c .before .advance .ensures .0, c .before .advance .ensures .2)
@@ -61,45 +61,63 @@ add-follow c = search needs
 
 follow-requires : tie.Need-follow-requires Inv-loop μ-loop
 follow-requires c κs =
-    let at = c .before .before .before .before .before .before in
+    let written = c .before .before in
+    let at = written .before .before .before .before .before in
     let l = at .loop .inv in
-    let w = c .before .before .before .advance .ensures in
-    let v = c .before .before .before .before .time-of .ensures in
-    let e = fill-turn _ _ _ _ _ (omega arith) (l .6) (rw v at (c .before .station .ensures)) in
+    let w = written .before .before .advance .ensures in
+    let v = written .before .before .before .time-of .ensures in
+    let inside = sym (written .before .is-inside .ensures) ∙ c .before .if1 .taken in
+    let e = fill-turn _ _ _ _ _ (omega arith) (l .6) (rw v at (written .station .ensures)) in
     let p = at .before .before .before .before .before .before .before .pre in
-    (p .1, omega (arith, p .1, p .2), w .2, rw (w .1) (w .0), search needs, simp length-set (l .2), p .5, fill-stands _ _ _ _ e)
-
-add-more-inside : tie.Need-add-more-inside Inv-loop μ-loop
-add-more-inside c = search needs
+    (p .1, omega (arith, p .1, p .2), w .2, rw (w .1) (w .0), rw (w .1) inside, search needs, simp length-set (l .2), p .5, fill-stands _ _ _ _ e)
 
 sub-more-inside : tie.Need-sub-more-inside Inv-loop μ-loop
 sub-more-inside c = omega (arith, c .before .before .follow .ensures .onward)
 
 more-inside-requires : tie.Need-more-inside-requires Inv-loop μ-loop
 more-inside-requires c κs =
-    let counted = c .before .before .before .before .before in
-    let l = counted .before .before .before .before .loop .inv in
-    let v = counted .before .before .time-of .ensures in
+    let written = c .before .before .before .before .before in
+    let l = written .before .before .before .before .before .loop .inv in
     let f = c .before .before .follow .ensures in
-    let d = (rw v at (counted .tally .ensures)) ∙ counts-turn _ _ _ _ (l .4) in
-    (omega (arith, counts-written _ _ _ _ d, f .onward, f .within, l .1), counts-bounded _ _ _ _ d (omega arith))
+    (omega (arith, counts-written _ _ _ _ (l .4), f .onward, f .within, l .1), counts-bounded _ _ _ _ (l .4) (omega arith))
 
 loop-less : tie.Need-loop-less Inv-loop μ-loop
 loop-less c = omega (arith, c .before .before .before .follow .ensures .onward, c .before .before .before .follow .ensures .within)
 
 loop-again : tie.Need-loop-again Inv-loop μ-loop
 loop-again c =
-    let counted = c .before .before .before .before .before .before in
-    let l = counted .before .before .before .before .loop .inv in
-    let v = counted .before .before .time-of .ensures in
+    let written = c .before .before .before .before .before .before in
+    let l = written .before .before .before .before .before .loop .inv in
+    let w = written .before .before .advance .ensures in
+    let v = written .before .before .before .time-of .ensures in
+    let inside = sym (written .before .is-inside .ensures) ∙ c .before .before .before .before .before .if1 .taken in
     let f = c .before .before .before .follow .ensures in
-    let e = fill-turn _ _ _ _ _ (omega arith) (l .6) (rw v at (c .before .before .before .before .before .station .ensures)) in
-    let d = (rw v at (counted .tally .ensures)) ∙ counts-turn _ _ _ _ (l .4) in
+    let e = fill-turn _ _ _ _ _ (omega arith) (l .6) (rw v at (written .station .ensures)) in
     let g = fill-on _ _ _ _ _ _ (f .onward) e (f .left) in
     let q = ap length g ∙ length-filled _ _ _ (omega (arith, f .within, l .2, l .5)) in
-    let w = counted .before .advance .ensures in
-    let n = counts-up-to _ _ _ _ _ _ d (f .onward) (f .inside) (c .more-inside .ensures) in
+    let n = counts-up-to _ _ _ _ _ _ (l .4) (omega (arith, f .onward)) (inside-first _ _ _ _ (rw v at inside) (f .inside)) (c .more-inside .ensures) in
     (f .within, l .1, omega (arith, q, l .2, l .5), w .2, n, q, g)
+
+tally-requires : tie.Need-tally-requires Inv-loop μ-loop
+tally-requires c κs =
+    let l = c .before .before .before .before .before .before .loop .inv in
+    (search needs, c .before .before .before .advance .ensures .0, counts-bounded _ _ _ _ (l .4) (omega arith))
+
+add-j : tie.Need-add-j Inv-loop μ-loop
+add-j c = search needs
+
+loop-less-2 : tie.Need-loop-less-2 Inv-loop μ-loop
+loop-less-2 c = search needs
+
+loop-again-2 : tie.Need-loop-again-2 Inv-loop μ-loop
+loop-again-2 c =
+    let written = c .before .before in
+    let l = written .before .before .before .before .before .loop .inv in
+    let w = written .before .before .advance .ensures in
+    let v = written .before .before .before .time-of .ensures in
+    let e = fill-turn _ _ _ _ _ (omega arith) (l .6) (rw v at (written .station .ensures)) in
+    let d = (rw v at (c .tally .ensures)) ∙ counts-turn _ _ _ _ (l .4) in
+    (omega arith, l .1, simp length-set (l .2), w .2, d, simp length-set (l .5), e)
 
 same-length : tie.Need-same-length Inv-loop μ-loop
 same-length c = search needs
@@ -120,16 +138,19 @@ walked-spec =
     loop-holds
     time-of-requires
     advance-requires
-    tally-requires
+    is-inside-requires
     station-requires
     mul-out
     slice-write-out
     add-follow
     follow-requires
-    add-more-inside
     sub-more-inside
     more-inside-requires
     loop-less
     loop-again
+    tally-requires
+    add-j
+    loop-less-2
+    loop-again-2
     same-length
     returns)
