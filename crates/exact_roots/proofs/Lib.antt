@@ -1,6 +1,7 @@
 -- The laws, in reading order.
 pub mod Roots
 pub mod RootLaw
+pub mod NearRoots
 pub mod SqrtCases
 pub mod HypotCases
 pub mod NearestRoot

@@ -6,3 +6,6 @@ pub mod Shifts
 pub mod Squares
 pub mod Far
 pub mod Lengths
+pub mod WholeFloats
+pub mod UpperSums
+pub mod Tested

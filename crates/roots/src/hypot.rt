@@ -1,6 +1,6 @@
 // Document 01's hypot.
 ghost use mathlib.Core.Path.{_≡_};
-ghost use Prim.Native.Nat.{_+_, _*_, _/_, _%_, _^_, _<_, _≤_};
+ghost use Prim.Native.Nat.{_+_, _-_, _*_, _/_, _%_, _^_, _<_, _≤_};
 ghost use mathlib.Core.Bool.{cond};
 ghost use lib.Dec.{ltb};
 ghost use lib.Ieee.{binary64, ofBits};
@@ -8,6 +8,7 @@ ghost use Rattle.rounding.specs.Packing.{significand, exponent};
 ghost use Rattle.exact_roots.specs.CutRoot.{stickMore};
 ghost use Rattle.roots.specs.Hypot.{hypotOf, Spanned};
 use crate::floor_root;
+use crate::near_root;
 use limbs::wide;
 use limbs::wide::Wide;
 use patterns::pattern;
@@ -110,6 +111,43 @@ fn ordered(a: u64, b: u64) -> f64
     0.0 / 0.0
 }
 
+// From two normal patterns that are not far apart, the larger first. A guess that is the root is the answer; else the root is worked out. Its exponent is
+// the larger's, or one more, and then below an infinity's.
+fn near_length(a: u64, b: u64) -> f64
+    requires { ⌜ (27 ≤ a / 2 ^ 52) × (b ≤ a) × (a / 2 ^ 52 < 2046) × (a / 2 ^ 52 - b / 2 ^ 52 < 27) ⌝ }
+    ensures { λ r. ⌜ r ≡ hypotOf binary64 (ofBits binary64 a) (ofBits binary64 b) ⌝ }
+{
+    let p = packing::fields(a);
+    let q = packing::fields(b);
+    let h = near_root::upper_sum(p.m, q.m, p.k - q.k);
+    let g = near_root::in_floats(h);
+    if g != g {
+        return finite_length(a, b);
+    }
+    let u = f64::to_bits(g) % 0x10_0000_0000_0000 * 2048 + 0x8000_0000_0000_0000;
+    let low = 1 - (h >> 62);
+    if near_root::is_nearest(h, u, low) {
+        return f64::from_bits((p.k - 52 - low) * 0x10_0000_0000_0000 + (u >> 11));
+    }
+    finite_length(a, b)
+}
+
+// From two patterns without a sign, the larger first. Where both are normal and not far apart, a guess is tried.
+fn tried_length(a: u64, b: u64) -> f64
+    requires { ⌜ (b ≤ a) × (a < 0x8000_0000_0000_0000) ⌝ }
+    ensures { λ r. ⌜ r ≡ hypotOf binary64 (ofBits binary64 a) (ofBits binary64 b) ⌝ }
+{
+    let k = a >> 52;
+    if k >= 27 {
+        if k < 2046 {
+            if k - (b >> 52) < 27 {
+                return near_length(a, b);
+            }
+        }
+    }
+    ordered(a, b)
+}
+
 // Two patterns in order.
 struct Sorted {
     larger: u64,
@@ -131,13 +169,30 @@ fn in_order(a: u64, b: u64) -> Sorted
     }
 }
 
-// "An infinite part gives plus infinity; else a NaN part gives NaN; else nearest to the root of x² + y²."
-pub fn hypot(x: f64, y: f64) -> f64
-    ensures { λ r. ⌜ Spanned binary64 x y r ⌝ }
+// From any two doubles, a NaN too.
+fn any_length(x: f64, y: f64) -> f64
+    ensures { λ r. ⌜ r ≡ hypotOf binary64 x y ⌝ }
 {
     let s = in_order(
         pattern::pattern_of(x) % 0x8000_0000_0000_0000,
         pattern::pattern_of(y) % 0x8000_0000_0000_0000,
     );
     ordered(s.larger, s.smaller)
+}
+
+// "An infinite part gives plus infinity; else a NaN part gives NaN; else nearest to the root of x² + y²." Most often there is no NaN, and then no
+// pattern has to be chosen for one.
+pub fn hypot(x: f64, y: f64) -> f64
+    ensures { λ r. ⌜ Spanned binary64 x y r ⌝ }
+{
+    if x == x {
+        if y == y {
+            let s = in_order(
+                f64::to_bits(x) % 0x8000_0000_0000_0000,
+                f64::to_bits(y) % 0x8000_0000_0000_0000,
+            );
+            return tried_length(s.larger, s.smaller);
+        }
+    }
+    any_length(x, y)
 }

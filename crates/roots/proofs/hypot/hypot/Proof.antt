@@ -1,45 +1,54 @@
-use mathlib.Core.Path.{ap₂, _∙_}
-use Prim.Native.Nat.{ℕ, _%_, _^_}
+use mathlib.Core.Path.{_∙_}
+use Prim.Native.Nat.{_%_, _^_}
 use native.Mathlib.Omega.{arith}
 use borrow.Author.Needs.{needs}
-use lib.Ieee.{binary64, ofBits}
+use lib.Ieee.{binary64, toBits}
 use Rattle.number.proofs.Order.{holds}
-use Rattle.roots.specs.Hypot.{hypotOf}
 use Rattle.exact_roots.proofs.NearestRoot.{spanned}
 use Rattle.exact_roots.proofs.HypotCases.{code-unsigned, sorted-in, code-sorted}
+use Rattle.roots.proofs.WholeFloats.{same-number}
 use Rattle.roots.proofs.hypot.hypot.Statement.{statement}
 use Rattle.roots.proofs.hypot.hypot.Tie as tie
 
-pattern-of-requires : tie.Need-pattern-of-requires
-pattern-of-requires c κs = search needs
+float-to-bits-in-order : tie.Need-float-to-bits-in-order
+float-to-bits-in-order c = same-number (c .before .before .args .x) (c .before .if1 .taken)
 
-pattern-of-requires-2 : tie.Need-pattern-of-requires-2
-pattern-of-requires-2 c κs = search needs
+float-to-bits-in-order-2 : tie.Need-float-to-bits-in-order-2
+float-to-bits-in-order-2 c = same-number (c .before .before .args .y) (c .if2 .taken)
 
 in-order-requires : tie.Need-in-order-requires
 in-order-requires c κs = search needs
 
-ordered-requires : tie.Need-ordered-requires
-ordered-requires c κs =
-    let p = c .before .before .pattern-of in
-    let q = c .before .pattern-of2 in
+tried-length-requires : tie.Need-tried-length-requires
+tried-length-requires c κs =
+    let t = c .before .before .before in
     let s = c .in-order in
-    sorted-in (p .result % 2 ^ 63) (q .result % 2 ^ 63) (s .result .larger) (s .result .smaller) (s .ensures) (omega arith) (omega arith)
+    sorted-in (toBits binary64 (t .args .x) % 2 ^ 63) (toBits binary64 (t .args .y) % 2 ^ 63) (s .result .larger) (s .result .smaller) (s .ensures) (omega arith) (omega arith)
 
 returns : tie.Need-returns
 returns c =
-    let p = c .before .before .before .pattern-of in
-    let q = c .before .before .pattern-of2 in
-    let s = c .before .in-order in
     let t = c .before .before .before .before in
+    let s = c .before .in-order in
     spanned binary64 _ _ _ (
-    c .ordered .ensures
-    ∙ code-sorted (p .result % 2 ^ 63) (q .result % 2 ^ 63) (s .result .larger) (s .result .smaller) (s .ensures)
-    ∙ ap₂ (λ (a b : ℕ). hypotOf binary64 (ofBits binary64 (a % 2 ^ 63)) (ofBits binary64 (b % 2 ^ 63))) (p .ensures) (q .ensures)
+    c .tried-length .ensures
+    ∙ code-sorted (toBits binary64 (t .args .x) % 2 ^ 63) (toBits binary64 (t .args .y) % 2 ^ 63) (s .result .larger) (s .result .smaller) (s .ensures)
     ∙ code-unsigned (t .args .x) (t .args .y) (holds (t .good .0 .1)) (holds (t .good .1 .0 .1))
     )
+
+any-length-requires : tie.Need-any-length-requires
+any-length-requires c κs = search needs
+
+returns-2 : tie.Need-returns-2
+returns-2 c = spanned binary64 _ _ _ (c .any-length .ensures)
 
 pub hypot-spec : {M : Type 1} → statement M
 hypot-spec =
     tie.close
-    (tie.spec pattern-of-requires pattern-of-requires-2 in-order-requires ordered-requires returns)
+    (tie.spec
+    float-to-bits-in-order
+    float-to-bits-in-order-2
+    in-order-requires
+    tried-length-requires
+    returns
+    any-length-requires
+    returns-2)
