@@ -1,5 +1,5 @@
 -- The certificate is what one row after another makes of it, whatever the rows are: a row that is refused, with 5 or 6, admits no speed.
-use mathlib.Core.Path.{_≡_, refl, sym, ap, _∙_}
+use mathlib.Core.Path.{_≡_, refl, sym, ap, ap₂, subst, _∙_}
 use mathlib.Core.Bool.{Bool, true, false, not, _&&_, _||_, cond}
 use mathlib.Core.Logic.{_⊎_, inl, inr}
 use mathlib.Core.List.{List, [], _∷_}
@@ -19,9 +19,12 @@ use Rattle.rows.specs.declared.reading.Reading.{Reading}
 use Rattle.rows.specs.declared.reading.Reading.the-variants.{Unfit, Unmeetable, Silent, Says}
 use Rattle.rows.specs.declared.judging.Judged.the-variants.{Broken, Fits}
 use Rattle.rows.proofs.Within.{one-truth, within-all}
+use Rattle.limits.specs.Bounds.{spanOf}
 use Rattle.limits.specs.declared.request.Request.{Request}
+use Rattle.limits.specs.declared.projection.Span.{Span}
 use Rattle.certificates.specs.Certificate.{between, passes, worseNormalized, worseRaw, certificate}
-use Rattle.certificates.specs.RowByRow.{counted, countedReading, countedRow}
+use Rattle.certificates.specs.RowByRow.{inside, worse, counted, countedReading, countedRow}
+use Rattle.certificates.proofs.Worst.{fromZero, worse-is, worse-from, zero-from}
 use Rattle.certificates.specs.declared.certificate.Certificate.{Certificate}
 use Rattle.certificates.specs.declared.certificate.Certificate.the-variants.{Passed, Failed}
 
@@ -102,10 +105,10 @@ module _ (tol a x : Float) (w : Row) where
           let r = and-r (finite (rawTol tol w)) three f in
           (inverse-finite (and-l (finite (normalized a x w)) two r), and-l (finite (rawTol tol w)) three f)
 
-  unfit-breaks : unfit tol w ≡ true → admits tol a x w ≡ false
+  pub unfit-breaks : unfit tol w ≡ true → admits tol a x w ≡ false
   unfit-breaks u = one-truth (admits tol a x w) false (λ h. fails (sym u ∙ admitted-fit h) tt) (λ h. absurd h)
 
-  unmeetable-breaks : unmeetable w ≡ true → admits tol a x w ≡ false
+  pub unmeetable-breaks : unmeetable w ≡ true → admits tol a x w ≡ false
   unfolding admits unmeetable
   unmeetable-breaks m = go (numbersFinite w) (empty w) (lt (w .rhs) zero) (le zero (w .rhs)) m (λ l. lt-not-le (w .rhs) zero l)
     where
@@ -142,31 +145,56 @@ module _ (tol a x : Float) (w : Row) where
   broken : (n r : Float) → admits tol a x w ≡ false → Failed ≡ next n r
   broken n r h = rw h
 
-  says-counted : (n r : Float) → unfit tol w ≡ false → empty w ≡ false → counted (Passed n r) (judged tol x (blockOf tol a w)) ≡ next n r
-  unfolding admits judged counted blockOf worseNormalized worseRaw
-  says-counted n r u e =
-      let t = fit-tolerance tol w u e in
-      rw (fit-numbers tol w u, e, within-all tol (rawTol tol w) (normalized a x w) (raw a x w) (norm w) (mul-finite binary64 tol _ t .0) t) (go all-are)
-    where
-      go : (b : Bool) → counted (Passed n r) (cond b (Fits (normalized a x w) (rawNormalized a x w) (raw a x w)) Broken)
-          ≡ cond b (Passed (maximum (maximum n (normalized a x w)) (rawNormalized a x w)) (maximum r (raw a x w))) Failed
-      go true = refl
-      go false = refl
+  module _ (n r : Float) (N : T (fromZero n)) (R : T (fromZero r)) where
+    once : T (fromZero (worse n (normalized a x w)))
+    once = worse-from n (normalized a x w) N
+
+    worst-is : worse (worse n (normalized a x w)) (rawNormalized a x w) ≡ maximum (maximum n (normalized a x w)) (rawNormalized a x w)
+    worst-is =
+        worse-is (worse n (normalized a x w)) (rawNormalized a x w) once ∙ ap (λ (y : Float). maximum y (rawNormalized a x w)) (worse-is n (normalized a x w) N)
+
+    says-counted : unfit tol w ≡ false → empty w ≡ false → counted (Passed n r) (judged tol x (blockOf tol a w)) ≡ next n r
+    unfolding admits judged counted blockOf worseNormalized worseRaw
+    says-counted u e =
+        let t = fit-tolerance tol w u e in
+        rw (fit-numbers tol w u, e, within-all tol (rawTol tol w) (normalized a x w) (raw a x w) (norm w) (mul-finite binary64 tol _ t .0) t) (go all-are)
+      where
+        go : (b : Bool) → counted (Passed n r) (cond b (Fits (normalized a x w) (rawNormalized a x w) (raw a x w)) Broken)
+            ≡ cond b (Passed (maximum (maximum n (normalized a x w)) (rawNormalized a x w)) (maximum r (raw a x w))) Failed
+        go true = ap₂ Passed worst-is (worse-is r (raw a x w) R)
+        go false = refl
+
+    -- the figures after a row start no lower
+    normalized-from : T (fromZero (worseNormalized a x n w))
+    unfolding worseNormalized
+    normalized-from = go (empty w)
+      where
+        go : (e : Bool) → T (fromZero (cond e n (maximum (maximum n (normalized a x w)) (rawNormalized a x w))))
+        go true = N
+        go false = subst (λ (y : Float). T (fromZero y)) worst-is (worse-from (worse n (normalized a x w)) (rawNormalized a x w) once)
+
+    raw-from : T (fromZero (worseRaw a x r w))
+    unfolding worseRaw
+    raw-from = go (empty w)
+      where
+        go : (e : Bool) → T (fromZero (cond e r (maximum r (raw a x w))))
+        go true = R
+        go false = subst (λ (y : Float). T (fromZero y)) (worse-is r (raw a x w) R) (worse-from r (raw a x w) R)
 
   silent-counted : (n r : Float) → unfit tol w ≡ false → unmeetable w ≡ false → empty w ≡ true → Passed n r ≡ next n r
   unfolding worseNormalized worseRaw
   silent-counted n r u m e = rw (silent-admits u m e, e)
 
-  row-counted : (n r : Float) → countedRow tol a x (Passed n r) w ≡ next n r
+  row-counted : (n r : Float) → T (fromZero n) → T (fromZero r) → countedRow tol a x (Passed n r) w ≡ next n r
   unfolding readingOf countedReading
-  row-counted n r = go (unfit tol w) refl (unmeetable w) refl (empty w) refl
+  row-counted n r N R = go (unfit tol w) refl (unmeetable w) refl (empty w) refl
     where
       go : (u : Bool) → unfit tol w ≡ u → (m : Bool) → unmeetable w ≡ m → (e : Bool) → empty w ≡ e
           → countedReading tol x (Passed n r) (cond u Unfit (cond m Unmeetable (cond e Silent (Says (blockOf tol a w))))) ≡ next n r
       go true u m h e k = broken n r (unfit-breaks u)
       go false u true h e k = broken n r (unmeetable-breaks h)
       go false u false h true k = silent-counted n r u h k
-      go false u false h false k = says-counted n r u k
+      go false u false h false k = says-counted n r N R u k
 
 -- ---- all rows
 
@@ -178,7 +206,7 @@ module _ (tol a x : Float) where
   reading-fails Silent = refl
   reading-fails (Says b) = refl
 
-  failed-stays : (rows : List Row) → fold (countedRow tol a x) Failed rows ≡ Failed
+  pub failed-stays : (rows : List Row) → fold (countedRow tol a x) Failed rows ≡ Failed
   unfolding fold
   failed-stays [] = refl
   failed-stays (w ∷ rows) = ap (λ (c : Certificate). fold (countedRow tol a x) c rows) (reading-fails (readingOf tol a w)) ∙ failed-stays rows
@@ -186,12 +214,12 @@ module _ (tol a x : Float) where
   abbrev verdict : List Row → Float → Float → Certificate
   verdict rows n r = cond (all (admits tol a x) rows) (Passed (fold (worseNormalized a x) n rows) (fold (worseRaw a x) r rows)) Failed
 
-  rows-counted : (rows : List Row) (n r : Float) → fold (countedRow tol a x) (Passed n r) rows ≡ verdict rows n r
+  rows-counted : (rows : List Row) (n r : Float) → T (fromZero n) → T (fromZero r) → fold (countedRow tol a x) (Passed n r) rows ≡ verdict rows n r
   unfolding fold all
-  rows-counted [] n r = refl
-  rows-counted (w ∷ rows) n r =
-      ap (λ (c : Certificate). fold (countedRow tol a x) c rows) (row-counted tol a x w n r)
-      ∙ go (admits tol a x w) (rows-counted rows (worseNormalized a x n w) (worseRaw a x r w))
+  rows-counted [] n r N R = refl
+  rows-counted (w ∷ rows) n r N R =
+      ap (λ (c : Certificate). fold (countedRow tol a x) c rows) (row-counted tol a x w n r N R)
+      ∙ go (admits tol a x w) (rows-counted rows (worseNormalized a x n w) (worseRaw a x r w) (normalized-from tol a x w n r N R) (raw-from tol a x w n r N R))
     where
       go : (b : Bool) → fold (countedRow tol a x) (Passed (worseNormalized a x n w) (worseRaw a x r w)) rows ≡ verdict rows (worseNormalized a x n w) (worseRaw a x r w)
           → fold (countedRow tol a x) (cond b (Passed (worseNormalized a x n w) (worseRaw a x r w)) Failed) rows
@@ -201,11 +229,16 @@ module _ (tol a x : Float) where
       go true h = h
       go false h = failed-stays rows
 
+-- the test of the bounds, as it is made
+pub inside-bounds : (q : Request) (s : Span) (x : Float) → s ≡ spanOf q → inside s x ≡ between q x
+unfolding inside between
+inside-bounds q s x e = rw e
+
 -- the certificate, by its rows one after another
 pub certificate-counted : (q : Request) (rows : List Row) (x : Float)
     → cond (between q x) (fold (countedRow (q .tolerances .feas) (q .«a_prev») x) (Passed zero zero) rows) Failed ≡ certificate q rows x
 unfolding certificate passes
-certificate-counted q rows x = go (between q x) (rows-counted (q .tolerances .feas) (q .«a_prev») x rows zero zero)
+certificate-counted q rows x = go (between q x) (rows-counted (q .tolerances .feas) (q .«a_prev») x rows zero zero zero-from zero-from)
   where
     go : (b : Bool) {c : Certificate} → c ≡ verdict (q .tolerances .feas) (q .«a_prev») x rows zero zero
         → cond b c Failed ≡ cond (b && all (admits (q .tolerances .feas) (q .«a_prev») x) rows)

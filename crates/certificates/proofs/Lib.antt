@@ -1,1 +1,4 @@
+pub mod Worst
 pub mod Certificates
+pub mod Verdicts
+pub mod Admitted

@@ -1,8 +1,9 @@
 // The certificate: a plain function of record, rows and x, where the Rust has a closure.
+use byte_lists::doubles::double_at;
 use limits::bounds;
+use limits::projection::Span;
 use limits::request::Request;
 use number::size;
-use picks::pick;
 use rows::judging;
 use rows::judging::Judged;
 use rows::reading;
@@ -10,8 +11,9 @@ use rows::reading::Reading;
 ghost use mathlib.Core.Path.{_≡_};
 ghost use Rattle.number.specs.Doubles.{zero};
 ghost use Rattle.rows.specs.Rows.{rowsOf, fold};
-ghost use Rattle.certificates.specs.Certificate.{between, certificate};
-ghost use Rattle.certificates.specs.RowByRow.{counted, countedReading, countedRow};
+ghost use Rattle.byte_lists.specs.Bytes.{doublesOf};
+ghost use Rattle.certificates.specs.Certificate.{certificate};
+ghost use Rattle.certificates.specs.RowByRow.{inside, worse, counted, countedReading, countedRow};
 
 // The worst figures over the rows where the speed passes.
 pub enum Certificate {
@@ -23,22 +25,30 @@ pub enum Certificate {
 }
 
 // 01: "lower ≤ x ≤ upper", by plain comparison.
-pub fn is_between(q: Request, x: f64) -> bool
-    ensures { λ r. ⌜ r ≡ between q x ⌝ }
+pub fn is_inside(s: Span, x: f64) -> bool
+    ensures { λ r. ⌜ r ≡ inside s x ⌝ }
 {
     if size::finite(x) {
-        if bounds::lower(q) <= x {
-            return x <= bounds::upper(q);
+        if s.low <= x {
+            return x <= s.high;
         }
     }
     false
 }
 
-fn count(c: Certificate, j: Judged) -> Certificate
+// The maximum, as what starts at +0 and only grows is no NaN and no minus zero.
+fn worse(worst: f64, x: f64) -> f64
+    ensures { λ r. ⌜ r ≡ worse worst x ⌝ }
+{
+    if worst < x { x } else { worst }
+}
+
+// One row more.
+pub fn count(c: Certificate, j: Judged) -> Certificate
     ensures { λ r. ⌜ r ≡ counted c j ⌝ }
 {
     match c {
-        Certificate::Failed => c,
+        Certificate::Failed => Certificate::Failed,
         Certificate::Passed {
             worst_normalized,
             worst_raw,
@@ -49,12 +59,25 @@ fn count(c: Certificate, j: Judged) -> Certificate
                 raw_normalized,
                 raw,
             } => Certificate::Passed {
-                worst_normalized: pick::maximum(
-                    pick::maximum(worst_normalized, normalized),
-                    raw_normalized,
-                ),
-                worst_raw: pick::maximum(worst_raw, raw),
+                worst_normalized: worse(worse(worst_normalized, normalized), raw_normalized),
+                worst_raw: worse(worst_raw, raw),
             },
+        },
+    }
+}
+
+// The certificate as it was, made anew: what is handed on whole is copied with its padding, for every row.
+fn same(c: Certificate) -> Certificate
+    ensures { λ r. ⌜ r ≡ c ⌝ }
+{
+    match c {
+        Certificate::Failed => Certificate::Failed,
+        Certificate::Passed {
+            worst_normalized,
+            worst_raw,
+        } => Certificate::Passed {
+            worst_normalized,
+            worst_raw,
         },
     }
 }
@@ -66,35 +89,42 @@ fn count_reading(tol: f64, x: f64, c: Certificate, r: Reading) -> Certificate
     match r {
         Reading::Unfit => Certificate::Failed,
         Reading::Unmeetable => Certificate::Failed,
-        Reading::Silent => c,
+        Reading::Silent => same(c),
         Reading::Says(b) => count(c, judging::judge(tol, x, b)),
     }
 }
 
-fn certify_rows(tol: f64, a: f64, rows: &[f64], x: f64) -> Certificate
-    ensures { λ r. ⌜ r ≡ fold (countedRow tol a x) (Certificate.Passed zero zero) (rowsOf (now (rows .entry))) ⌝ }
+// The rows alone: the first that does not admit the speed ends it.
+fn certify_rows(tol: f64, a: f64, rows: &[u8], x: f64) -> Certificate
+    ensures { λ r. ⌜ r ≡ fold (countedRow tol a x) (Certificate.Passed zero zero) (rowsOf (doublesOf (now (rows .entry)))) ⌝ }
 {
+    let n = rows.len() / 8;
     let mut c = Certificate::Passed {
         worst_normalized: 0.0,
         worst_raw: 0.0,
     };
     let mut i = 0;
-    while 3 <= rows.len() - i {
-        c = count_reading(
+    while 3 <= n - i {
+        let r = reading::read(
             tol,
-            x,
-            c,
-            reading::read(tol, a, rows[i], rows[i + 1], rows[i + 2]),
+            a,
+            double_at(rows, i),
+            double_at(rows, i + 1),
+            double_at(rows, i + 2),
         );
+        c = count_reading(tol, x, c, r);
+        if let Certificate::Failed = c {
+            return Certificate::Failed;
+        }
         i += 3;
     }
     c
 }
 
-pub fn certify(q: Request, rows: &[f64], x: f64) -> Certificate
-    ensures { λ r. ⌜ r ≡ certificate q (rowsOf (now (rows .entry))) x ⌝ }
+pub fn certify(q: Request, rows: &[u8], x: f64) -> Certificate
+    ensures { λ r. ⌜ r ≡ certificate q (rowsOf (doublesOf (now (rows .entry)))) x ⌝ }
 {
-    if is_between(q, x) {
+    if is_inside(bounds::span(q), x) {
         return certify_rows(q.tolerances.feas, q.a_prev, rows, x);
     }
     Certificate::Failed

@@ -4,6 +4,7 @@ use Rattle.number.specs.Leaves.{minimum, maximum}
 use Rattle.number.specs.Doubles.{zero}
 use Rattle.limits.specs.declared.request.Station.{Station}
 use Rattle.limits.specs.declared.request.Request.{Request}
+use Rattle.limits.specs.declared.projection.Span.{Span}
 
 abbrev pub lowerEnd : Station → Float
 lowerEnd b = maximum (b .interval .lower) zero
@@ -17,3 +18,7 @@ lower q = lowerEnd (q .curr)
 
 abbrev pub upper : Request → Float
 upper q = upperEnd (q .curr)
+
+-- both, before any row cuts them down
+abbrev pub spanOf : Request → Span
+spanOf q = record { low = lower q; high = upper q }

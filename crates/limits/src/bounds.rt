@@ -1,9 +1,10 @@
 // The bounds of a station.
+use crate::projection::Span;
 use crate::request::Request;
 use crate::request::Station;
 use picks::pick;
 ghost use mathlib.Core.Path.{_≡_};
-ghost use Rattle.limits.specs.Bounds.{lowerEnd, upperEnd, lower, upper};
+ghost use Rattle.limits.specs.Bounds.{lowerEnd, upperEnd, lower, upper, spanOf};
 
 pub fn lower_end(b: Station) -> f64
     ensures { λ r. ⌜ r ≡ lowerEnd b ⌝ }
@@ -28,4 +29,14 @@ pub fn upper(q: Request) -> f64
     ensures { λ r. ⌜ r ≡ upper q ⌝ }
 {
     upper_end(q.curr)
+}
+
+// Both, before any row cuts them down.
+pub fn span(q: Request) -> Span
+    ensures { λ r. ⌜ r ≡ spanOf q ⌝ }
+{
+    Span {
+        low: lower(q),
+        high: upper(q),
+    }
 }

@@ -22,7 +22,7 @@ use Rattle.passing.proofs.Digits.{rnd}
 use Rattle.passing.proofs.Mean.{bound, settle}
 use Rattle.passing.proofs.Middle.{half, mean}
 use Rattle.passing.proofs.Gaps.{None, Gap, one-step, from-lower, upto-upper, inside, gap-above, gap-below}
-use Rattle.passing.proofs.Verdicts.{verdict, verdict-is}
+use Rattle.certificates.proofs.Verdicts.{verdict, verdict-is}
 
 -- the program's 1/2, and so its midpoint
 half-is : doubles.half ≡ half

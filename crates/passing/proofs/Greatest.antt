@@ -27,7 +27,7 @@ use Rattle.passing.specs.Demand.{Doubles, smallest, Greatest}
 use Rattle.passing.proofs.NoGap.{zero-is, passes-between, no-gap}
 use Rattle.passing.proofs.Brought.{high-fits, low-from-zero}
 use Rattle.passing.proofs.Gaps.{Gap}
-use Rattle.passing.proofs.Verdicts.{passed, failed}
+use Rattle.certificates.proofs.Verdicts.{passed, failed}
 use Rattle.passing.proofs.Ways.{Ways, by-recovery}
 use Rattle.passing.proofs.Bracket.{middle-is, Bracket, Ended, Carried, carried-on, carried-end}
 use Rattle.passing.proofs.Start.{middle-upto, first-gap}

@@ -6,7 +6,6 @@ pub mod Brought
 pub mod RowLaw
 -- What holds of every answer, by the ways to it.
 pub mod Reports
-pub mod Verdicts
 pub mod Ways
 pub mod Soundness
 -- The greatest passing double: numbers of p digits, the middle, the halvings, the whole search.

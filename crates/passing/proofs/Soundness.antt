@@ -23,7 +23,7 @@ use Rattle.search.specs.declared.answer.Answer.the-variants.{Certified, Refused
 use Rattle.search.proofs.Turns.{halved-tried}
 use Rattle.topp2_ra.specs.Recovery.{recovered}
 use Rattle.passing.specs.Demand.{Doubles, Sound}
-use Rattle.passing.proofs.Verdicts.{passed}
+use Rattle.certificates.proofs.Verdicts.{passed}
 use Rattle.passing.proofs.Brought.{upper-fits, high-fits}
 use Rattle.passing.proofs.Ways.{by-recovery}
 use Rattle.passing.proofs.Reports.{Reported}

@@ -1,32 +1,16 @@
 // Recovery on a byte list of rows, and its answer told to lent numbers.
-use byte_lists::doubles;
 use limits::request::Request;
 use patterns::pattern::pattern_of;
-use refusals::most;
 use search::answer::Answer;
 use topp2_ra::recovery::recover_forward_intersection;
 ghost use mathlib.Core.Path.{_≡_};
-ghost use Rattle.topp2_ra.specs.Recovery.{recovered};
-ghost use Rattle.byte_lists.specs.Bytes.{doublesOf};
 ghost use Rattle.replies.specs.AnswerTold.{recoveredBytes, Told};
-
-// A list over its limit is refused without being decoded.
-fn decoded(q: Request, rows: &[u8]) -> Answer
-    ensures { λ r. ⌜ r ≡ recovered q (doublesOf (now (rows .entry))) ⌝ }
-{
-    if 3 * most::ROWS < rows.len() / 8 {
-        return Answer::Refused(1);
-    }
-    let mut numbers = [0.0; 3 * most::ROWS];
-    doubles::decode(rows, &mut numbers);
-    recover_forward_intersection(q, &numbers[..rows.len() / 8])
-}
 
 pub fn recover_bytes(q: Request, rows: &[u8]) -> Answer
     ensures { λ r. ⌜ r ≡ recoveredBytes q (now (rows .entry)) ⌝ }
 {
     if rows.len() % 8 == 0 {
-        return decoded(q, rows);
+        return recover_forward_intersection(q, rows);
     }
     Answer::Refused(10)
 }

@@ -1,6 +1,6 @@
 -- Rows of a list from an index on: what every loop over rows asks.
 use Prim.Native.Nat.{ℕ, suc, _+_, _-_, _≤_, _<_}
-use mathlib.Core.Path.{_≡_, refl}
+use mathlib.Core.Path.{_≡_, refl, _∙_}
 use mathlib.Core.List.{List, [], _∷_}
 use native.Mathlib.Omega.{arith}
 use native.Mathlib.Numerals.{towards-suc}
@@ -8,9 +8,16 @@ use lib.ListN.{length, getD, drop, length-drop}
 use lib.Seq.{drop-cons}
 use lib.Ieee.{Float, nan}
 use Rattle.rows.specs.Rows.{Row, row, rowsOf, fold}
+use Rattle.rows.specs.Reading.{readingOf}
+use Rattle.rows.specs.declared.reading.Reading.{Reading}
 
 abbrev pub rowAt : List Float → ℕ → Row
 rowAt l i = row (getD l i nan) (getD l (i + 1) nan) (getD l (i + 2) nan)
+
+-- a row read double by double
+pub read-at : (tol a : Float) (l : List Float) (i : ℕ) (c p r : Float) (v : Reading) → c ≡ getD l i nan → p ≡ getD l (i + 1) nan → r ≡ getD l (i + 2) nan
+    → v ≡ readingOf tol a (row c p r) → v ≡ readingOf tol a (rowAt l i)
+read-at tol a l i c p r v e f g h = h ∙ rw (e, f, g)
 
 pub rows-at : (l : List Float) (i : ℕ) → i + 3 ≤ length l → rowsOf (drop i l) ≡ rowAt l i ∷ rowsOf (drop (i + 3) l)
 unfolding rowsOf

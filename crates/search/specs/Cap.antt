@@ -1,15 +1,18 @@
 -- The cap, and the search after a cap that failed.
-use mathlib.Core.Bool.{cond}
+use Prim.Native.Nat.{_/_}
+use mathlib.Core.Bool.{_||_, cond}
 use mathlib.Core.List.{List}
+use lib.Dec.{leb}
+use lib.ListN.{length}
 use lib.Ieee.{Float}
-use Rattle.refusals.specs.Refusals.{unless, _or_}
+use Rattle.refusals.specs.Most.{mostRows}
 use Rattle.refusals.specs.Outcome.{answered}
-use Rattle.rows.specs.Rows.{Row, rowsOf, wholeRows, any}
+use Rattle.rows.specs.Rows.{Row, rowsOf, any}
 use Rattle.rows.specs.Row.{rowsNo}
 use Rattle.limits.specs.Bounds.{upper}
 use Rattle.limits.specs.Projection.{unreachable, flat, projected}
 use Rattle.limits.specs.declared.request.Request.{Request}
-use Rattle.certificates.specs.Certificate.{certificate}
+use Rattle.certificates.specs.Certificate.{passes, certificate}
 use Rattle.certificates.specs.declared.certificate.Certificate.{Certificate}
 use Rattle.certificates.specs.declared.certificate.Certificate.the-variants.{Passed, Failed}
 use Rattle.search.specs.Search.{searched}
@@ -26,9 +29,10 @@ afterCap q rows Failed =
 unfoldable pub withCap : Request → List Row → Answer
 withCap q rows = afterCap q rows (certificate q rows (upper q))
 
--- the rows' own refusals come before the cap: 5 and 6, and 1 before them
+-- the rows' own refusals come before the cap: 5 and 6
 unfoldable pub ofRows : Request → List Row → Answer
 ofRows q rows = answered (withCap q rows) Refused (rowsNo (q .tolerances .feas) rows)
 
+-- a list of more rows than the table has room for, which refusal 1 keeps away, is answered by its cap alone
 unfoldable pub withRows : Request → List Float → Answer
-withRows q l = answered (withCap q (rowsOf l)) Refused (unless (wholeRows l) 1 or rowsNo (q .tolerances .feas) (rowsOf l))
+withRows q l = cond (leb (length l / 3) mostRows || passes q (rowsOf l) (upper q)) (ofRows q (rowsOf l)) (Refused 5)

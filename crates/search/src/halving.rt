@@ -2,19 +2,28 @@
 use crate::answer::Answer;
 use certificates::certificate::Certificate;
 use limits::projection::Span;
-use limits::request::Request;
 use tables::certificate;
+use tables::verdict;
 ghost use mathlib.Core.Path.{_≡_};
+ghost use mathlib.Core.Bool.{true};
 ghost use Prim.Native.Nat.{_<_, _≤_};
-ghost use Rattle.search.specs.Search.{middle, stops, replaced, halved, halvings, afterMiddle, tryMiddle};
 ghost use Rattle.tables.specs.Table.{blocksOf};
-ghost use Rattle.tables.specs.ByBlocks.{certificateOn};
+ghost use Rattle.tables.specs.ByBlocks.{certificateOn, passesOn};
+ghost use Rattle.search.specs.Search.{middle, afterMiddle, tryMiddle};
+ghost use Rattle.search.specs.OnTable.{meet, moved, halvedSides, endsOn, halvedAll};
 
 // The ends of the halving: one that passes, with its figures, and one that is rejected.
 pub struct Ends {
     pub passing: f64,
     pub worst_normalized: f64,
     pub worst_raw: f64,
+    pub rejected: f64,
+    pub tried: u64,
+}
+
+// The same without figures: those of the last passing end alone are asked for.
+pub(crate) struct Sides {
+    pub passing: f64,
     pub rejected: f64,
     pub tried: u64,
 }
@@ -26,99 +35,92 @@ fn middle(x: f64, y: f64) -> f64
     0.5 * x + 0.5 * y
 }
 
-fn at_an_end(e: Ends) -> bool
-    ensures { λ b. ⌜ b ≡ stops e ⌝ }
+fn at_an_end(s: Sides) -> bool
+    ensures { λ b. ⌜ b ≡ meet s ⌝ }
 {
-    let m = middle(e.passing, e.rejected);
-    if m == e.passing {
+    let m = middle(s.passing, s.rejected);
+    if m == s.passing {
         return true;
     }
-    m == e.rejected
+    m == s.rejected
 }
 
-fn replace(e: Ends, m: f64, c: Certificate) -> Ends
-    requires { ⌜ e .tried < 1000 ⌝ }
-    ensures { λ r. ⌜ r ≡ replaced e m c ⌝ }
+fn replace(s: Sides, m: f64, passes: bool) -> Sides
+    requires { ⌜ s .tried < 1000 ⌝ }
+    ensures { λ r. ⌜ r ≡ moved s m passes ⌝ }
 {
-    match c {
-        Certificate::Passed {
-            worst_normalized,
-            worst_raw,
-        } => Ends {
+    if passes {
+        return Sides {
             passing: m,
-            worst_normalized,
-            worst_raw,
-            rejected: e.rejected,
-            tried: e.tried + 1,
-        },
-        Certificate::Failed => Ends {
-            passing: e.passing,
-            worst_normalized: e.worst_normalized,
-            worst_raw: e.worst_raw,
-            rejected: m,
-            tried: e.tried + 1,
-        },
+            rejected: s.rejected,
+            tried: s.tried + 1,
+        };
+    }
+    Sides {
+        passing: s.passing,
+        rejected: m,
+        tried: s.tried + 1,
     }
 }
 
-fn halve(q: Request, table: &[f64], e: Ends) -> Ends
-    requires { ⌜ e .tried < 1000 ⌝ }
-    ensures { λ r. ⌜ r ≡ halved (certificateOn q (blocksOf (now (table .entry)))) e ⌝ }
+fn halve(tol: f64, bounds: Span, table: &[f64], s: Sides) -> Sides
+    requires { ⌜ s .tried < 1000 ⌝ }
+    ensures { λ r. ⌜ r ≡ halvedSides (passesOn tol bounds (blocksOf (now (table .entry)))) s ⌝ }
 {
-    let m = middle(e.passing, e.rejected);
-    replace(e, m, certificate::certify(q, table, m))
+    let m = middle(s.passing, s.rejected);
+    replace(s, m, verdict::passes(tol, bounds, table, m))
 }
 
-fn halve_all(q: Request, table: &[f64], start: Ends) -> Ends
-    requires { ⌜ start .tried < 900 ⌝ }
-    ensures { λ r. ⌜ r ≡ halvings (certificateOn q (blocksOf (now (table .entry)))) 64 (stops start) start ⌝ }
+fn halve_all(tol: f64, bounds: Span, table: &[f64], start: Sides) -> Sides
+    requires { ⌜ (start .tried < 900) × (passesOn tol bounds (blocksOf (now table)) (start .passing) ≡ true) ⌝ }
+    ensures { λ r. ⌜ (endsOn (certificateOn tol bounds (blocksOf (now (table .entry)))) r ≡ halvedAll (certificateOn tol bounds (blocksOf (now (table .entry)))) start)
+        × (passesOn tol bounds (blocksOf (now (table .entry))) (r .passing) ≡ true) ⌝ }
 {
-    let mut e = start;
+    let mut s = start;
     let mut left = 64usize;
     while 0 < left {
-        if at_an_end(e) {
-            return e;
+        if at_an_end(s) {
+            return s;
         }
-        e = halve(q, table, e);
+        s = halve(tol, bounds, table, s);
         left -= 1;
     }
-    e
+    s
 }
 
 // What follows a middle that passes. The passing end is the speed.
-fn after_middle(q: Request, table: &[f64], start: Ends) -> Answer
-    requires { ⌜ start .tried < 900 ⌝ }
-    ensures { λ a. ⌜ a ≡ afterMiddle (certificateOn q (blocksOf (now (table .entry)))) start ⌝ }
+fn after_middle(tol: f64, bounds: Span, table: &[f64], start: Sides) -> Answer
+    requires { ⌜ (start .tried < 900) × (passesOn tol bounds (blocksOf (now table)) (start .passing) ≡ true) ⌝ }
+    ensures { λ a. ⌜ a ≡ afterMiddle (certificateOn tol bounds (blocksOf (now (table .entry)))) (endsOn (certificateOn tol bounds (blocksOf (now (table .entry)))) start) ⌝ }
 {
-    let e = halve_all(q, table, start);
-    Answer::Certified {
-        speed: e.passing,
-        worst_normalized: e.worst_normalized,
-        worst_raw: e.worst_raw,
-        tried: e.tried,
-    }
-}
-
-pub(crate) fn try_middle(q: Request, table: &[f64], s: Span, tried: u64) -> Answer
-    requires { ⌜ tried ≤ 6 ⌝ }
-    ensures { λ a. ⌜ a ≡ tryMiddle (certificateOn q (blocksOf (now (table .entry)))) s tried ⌝ }
-{
-    let m = middle(s.low, s.high);
-    match certificate::certify(q, table, m) {
-        Certificate::Failed => Answer::Refused(9),
+    let s = halve_all(tol, bounds, table, start);
+    match certificate::certify(tol, bounds, table, s.passing) {
         Certificate::Passed {
             worst_normalized,
             worst_raw,
-        } => after_middle(
-            q,
-            table,
-            Ends {
-                passing: m,
-                worst_normalized,
-                worst_raw,
-                rejected: s.high,
-                tried: tried + 1,
-            },
-        ),
+        } => Answer::Certified {
+            speed: s.passing,
+            worst_normalized,
+            worst_raw,
+            tried: s.tried,
+        },
+        // Never: the passing end passes.
+        Certificate::Failed => Answer::Refused(9),
     }
+}
+
+pub(crate) fn try_middle(tol: f64, bounds: Span, table: &[f64], s: Span, tried: u64) -> Answer
+    requires { ⌜ tried ≤ 6 ⌝ }
+    ensures { λ a. ⌜ a ≡ tryMiddle (certificateOn tol bounds (blocksOf (now (table .entry)))) s tried ⌝ }
+{
+    let m = middle(s.low, s.high);
+    if verdict::passes(tol, bounds, table, m) {
+        let start = Sides {
+            passing: m,
+            rejected: s.high,
+            tried: tried + 1,
+        };
+        return after_middle(tol, bounds, table, start);
+    }
+    Answer::Refused(9)
 }

@@ -1,7 +1,6 @@
 // The projected upper end and up to four next-down doubles. What follows them is told, and not called: the middle.
 use certificates::certificate::Certificate;
 use limits::projection::Span;
-use limits::request::Request;
 use number::step;
 use tables::certificate;
 ghost use mathlib.Core.Path.{_≡_};
@@ -22,8 +21,8 @@ pub enum Near {
     ToMiddle(u64),
 }
 
-pub(crate) fn try_neighbours(q: Request, table: &[f64], s: Span) -> Near
-    ensures { λ r. ⌜ (r ≡ tryNeighbours (certificateOn q (blocksOf (now (table .entry)))) s) × (triedBefore r ≤ 6) ⌝ }
+pub(crate) fn try_neighbours(tol: f64, bounds: Span, table: &[f64], s: Span) -> Near
+    ensures { λ r. ⌜ (r ≡ tryNeighbours (certificateOn tol bounds (blocksOf (now (table .entry)))) s) × (triedBefore r ≤ 6) ⌝ }
 {
     let mut x = s.high;
     let mut tried = 1u64;
@@ -35,7 +34,7 @@ pub(crate) fn try_neighbours(q: Request, table: &[f64], s: Span) -> Near
         if let Certificate::Passed {
             worst_normalized,
             worst_raw,
-        } = certificate::certify(q, table, x) {
+        } = certificate::certify(tol, bounds, table, x) {
             return Near::Found {
                 speed: x,
                 worst_normalized,

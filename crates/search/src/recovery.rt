@@ -3,26 +3,26 @@ use crate::answer::Answer;
 use crate::halving;
 use crate::neighbours;
 use crate::neighbours::Near;
+use certificates::certificate;
 use certificates::certificate::Certificate;
 use limits::bounds;
 use limits::projection::Span;
 use limits::request::Request;
 use number::size;
-use rows::whole;
-use tables::certificate;
 use tables::filling;
 use tables::filling::Filled;
 use tables::projection;
-use tables::projection::Class;
+use tables::projection::Gathered;
 ghost use mathlib.Core.Path.{_≡_};
-ghost use Prim.Native.Nat.{_/_, _≤_};
+ghost use Prim.Native.Nat.{_*_, _≤_};
 ghost use lib.ListN.{length};
-ghost use Rattle.rows.specs.Rows.{rowsOf};
-ghost use Rattle.search.specs.Search.{inOrder, afterNeighbours, searched};
-ghost use Rattle.search.specs.Cap.{ofRows, withRows};
+ghost use Rattle.byte_lists.specs.Bytes.{doublesOf};
 ghost use Rattle.tables.specs.Table.{blocksOf};
+ghost use Rattle.tables.specs.Findings.{countOf, foundIn};
 ghost use Rattle.tables.specs.ByBlocks.{certificateOn};
-ghost use Rattle.search.specs.OnTable.{triedBefore, afterCapOn, withTable};
+ghost use Rattle.search.specs.Search.{inOrder, afterNeighbours, searched};
+ghost use Rattle.search.specs.Cap.{withRows};
+ghost use Rattle.search.specs.OnTable.{triedBefore, afterGathered, withTable, fromFinding, byTable};
 
 fn in_order(s: Span) -> bool
     ensures { λ r. ⌜ r ≡ inOrder s ⌝ }
@@ -35,9 +35,9 @@ fn in_order(s: Span) -> bool
     false
 }
 
-fn after_neighbours(q: Request, table: &[f64], s: Span, near: Near) -> Answer
+fn after_neighbours(tol: f64, bounds: Span, table: &[f64], s: Span, near: Near) -> Answer
     requires { ⌜ triedBefore near ≤ 6 ⌝ }
-    ensures { λ a. ⌜ a ≡ afterNeighbours (certificateOn q (blocksOf (now (table .entry)))) s near ⌝ }
+    ensures { λ a. ⌜ a ≡ afterNeighbours (certificateOn tol bounds (blocksOf (now (table .entry)))) s near ⌝ }
 {
     match near {
         Near::Found {
@@ -54,79 +54,114 @@ fn after_neighbours(q: Request, table: &[f64], s: Span, near: Near) -> Answer
         // What is called from one place is built into its caller, and the halvings then run short of registers: hence two calls.
         Near::ToMiddle(tried) => {
             if tried == 6 {
-                return halving::try_middle(q, table, s, 6);
+                return halving::try_middle(tol, bounds, table, s, 6);
             }
-            halving::try_middle(q, table, s, tried)
+            halving::try_middle(tol, bounds, table, s, tried)
         }
     }
 }
 
-fn search(q: Request, table: &[f64], s: Span) -> Answer
-    ensures { λ a. ⌜ a ≡ searched (certificateOn q (blocksOf (now (table .entry)))) s ⌝ }
+fn search(tol: f64, bounds: Span, table: &[f64], s: Span) -> Answer
+    ensures { λ a. ⌜ a ≡ searched (certificateOn tol bounds (blocksOf (now (table .entry)))) s ⌝ }
 {
     if in_order(s) {
-        return after_neighbours(q, table, s, neighbours::try_neighbours(q, table, s));
+        let near = neighbours::try_neighbours(tol, bounds, table, s);
+        return after_neighbours(tol, bounds, table, s, near);
     }
     Answer::Refused(8)
 }
 
-fn after_cap(q: Request, table: &[f64], c: Certificate) -> Answer
-    ensures { λ a. ⌜ a ≡ afterCapOn q (blocksOf (now (table .entry))) c ⌝ }
+// Refusals 7 and 8 of rows come before the search.
+fn after_gathered(tol: f64, bounds: Span, table: &[f64], g: Gathered) -> Answer
+    ensures { λ a. ⌜ a ≡ afterGathered tol bounds (blocksOf (now (table .entry))) g ⌝ }
 {
-    match c {
-        Certificate::Passed {
-            worst_normalized,
-            worst_raw,
-        } => Answer::Certified {
-            speed: bounds::upper(q),
-            worst_normalized,
-            worst_raw,
-            tried: 1,
-        },
-        Certificate::Failed => {
-            if projection::any_faulty(Class::Unreachable, q.tolerances.feas, table) {
-                return Answer::Refused(7);
-            }
-            if projection::any_faulty(Class::Flat, q.tolerances.feas, table) {
-                return Answer::Refused(8);
-            }
-            search(q, table, projection::project(q, table))
-        }
+    if g.unreachable {
+        return Answer::Refused(7);
     }
+    if g.flat {
+        return Answer::Refused(8);
+    }
+    search(tol, bounds, table, g.span)
 }
 
-fn with_table(q: Request, table: &[f64]) -> Answer
-    ensures { λ a. ⌜ a ≡ withTable q (blocksOf (now (table .entry))) ⌝ }
+fn with_table(tol: f64, bounds: Span, table: &[f64]) -> Answer
+    ensures { λ a. ⌜ a ≡ withTable tol bounds (blocksOf (now (table .entry))) ⌝ }
 {
-    after_cap(q, table, certificate::certify(q, table, bounds::upper(q)))
+    after_gathered(tol, bounds, table, projection::gather(tol, bounds, table))
 }
 
-// Refusals 5 and 6, then the cap.
-fn on_table(q: Request, rows: &[f64], table: &mut [f64]) -> Answer
-    requires { ⌜ length (now rows) / 3 ≤ length (now table) / 8 ⌝ }
-    ensures { λ a. ⌜ a ≡ ofRows q (rowsOf (now (rows .entry))) ⌝ }
+// Refusals 5 and 6, then what the table answers.
+fn on_table(tol: f64, bounds: Span, table: &[f64], v: Filled) -> Answer
+    requires { ⌜ 8 * countOf v ≤ length (now table) ⌝ }
+    ensures { λ a. ⌜ a ≡ fromFinding tol bounds (foundIn (now (table .entry)) v) ⌝ }
 {
-    match filling::fill(q.tolerances.feas, q.a_prev, rows, table) {
+    match v {
         Filled::SomeUnfit => Answer::Refused(5),
         Filled::SomeUnmeetable => Answer::Refused(6),
         Filled::Ready(n) => {
             let end = 8 * n;
-            with_table(q, &table[..end])
+            with_table(tol, bounds, &table[..end])
         }
     }
 }
 
-// A table of the size that is needed, so that a short list does not pay for a long one.
-pub fn recover(q: Request, rows: &[f64]) -> Answer
-    ensures { λ a. ⌜ a ≡ withRows q (now (rows .entry)) ⌝ }
+// Up to 32 rows.
+fn few_rows(q: Request, rows: &[u8]) -> Answer
+    ensures { λ r. ⌜ r ≡ byTable q (doublesOf (now (rows .entry))) 256 ⌝ }
 {
-    if whole::whole_rows(rows.len()) {
-        if rows.len() <= 96 {
-            let mut few = [0.0; 256];
-            return on_table(q, rows, &mut few);
-        }
-        let mut many = [0.0; 2048];
-        return on_table(q, rows, &mut many);
+    let tol = q.tolerances.feas;
+    let mut table = [0.0; 256];
+    let v = filling::fill(tol, q.a_prev, rows, &mut table);
+    on_table(tol, bounds::span(q), &table, v)
+}
+
+// Up to 256.
+fn many_rows(q: Request, rows: &[u8]) -> Answer
+    ensures { λ r. ⌜ r ≡ byTable q (doublesOf (now (rows .entry))) 2048 ⌝ }
+{
+    let tol = q.tolerances.feas;
+    let mut table = [0.0; 2048];
+    let v = filling::fill(tol, q.a_prev, rows, &mut table);
+    on_table(tol, bounds::span(q), &table, v)
+}
+
+// A table of the size that is needed, so that a short list does not pay for a long one.
+fn by_table(q: Request, rows: &[u8]) -> Answer
+    ensures { λ r. ⌜ r ≡ byTable q (doublesOf (now (rows .entry))) 2048 ⌝ }
+{
+    if rows.len() <= 768 {
+        return few_rows(q, rows);
     }
-    Answer::Refused(1)
+    many_rows(q, rows)
+}
+
+// The cap, and the table where it fails.
+fn by_cap(q: Request, rows: &[u8]) -> Answer
+    ensures { λ a. ⌜ a ≡ withRows q (doublesOf (now (rows .entry))) ⌝ }
+{
+    let cap = bounds::upper(q);
+    match certificate::certify(q, rows, cap) {
+        Certificate::Passed {
+            worst_normalized,
+            worst_raw,
+        } => Answer::Certified {
+            speed: cap,
+            worst_normalized,
+            worst_raw,
+            tried: 1,
+        },
+        Certificate::Failed => by_table(q, rows),
+    }
+}
+
+// The cap first: where it passes, no row is refused, and no table is made. A cap outside the bounds fails without its rows. What is called from one place is built
+// into its caller, whose frame would hold the table for a passing cap too: hence the table is asked in two.
+pub fn recover(q: Request, rows: &[u8]) -> Answer
+    ensures { λ a. ⌜ a ≡ withRows q (doublesOf (now (rows .entry))) ⌝ }
+{
+    let bounds = bounds::span(q);
+    if certificate::is_inside(bounds, bounds.high) {
+        return by_cap(q, rows);
+    }
+    by_table(q, rows)
 }

@@ -8,7 +8,7 @@ use native.Mathlib.Numerals.{add-one}
 use lib.ListN.{length, take, drop, List·getD-append}
 use lib.Seq.{sets, sets-eq, length-take-le, getD-take, getD-append-add}
 use lib.Ieee.{Float, nan}
-use Rattle.rows.specs.Rows.{fold, any}
+use Rattle.rows.specs.Rows.{fold, all}
 use Rattle.loops.specs.Upto.{at}
 use Rattle.tables.specs.Table.{blockAt, doublesIn, blocksFrom, blocksOf}
 use Rattle.rows.specs.declared.block.Block.{Block}
@@ -32,17 +32,17 @@ module _ (l : List Float) (k n : ℕ) where
   unfolding fold
   fold-done f s h = rw (blocks-done h)
 
-  pub any-here : (p : Block → Bool) → k < n → p (blockAt l k) ≡ true → any p (blocksFrom l k (n - k)) ≡ true
-  unfolding any
-  any-here p h e = rw (blocks-on h, e)
+  pub all-here : (p : Block → Bool) → k < n → p (blockAt l k) ≡ false → all p (blocksFrom l k (n - k)) ≡ false
+  unfolding all
+  all-here p h e = rw (blocks-on h, e)
 
-  pub any-past : (p : Block → Bool) → k < n → p (blockAt l k) ≡ false → any p (blocksFrom l k (n - k)) ≡ any p (blocksFrom l (k + 1) (n - (k + 1)))
-  unfolding any
-  any-past p h e = rw (blocks-on h, e)
+  pub all-past : (p : Block → Bool) → k < n → p (blockAt l k) ≡ true → all p (blocksFrom l k (n - k)) ≡ all p (blocksFrom l (k + 1) (n - (k + 1)))
+  unfolding all
+  all-past p h e = rw (blocks-on h, e)
 
-  pub any-done : (p : Block → Bool) → n ≤ k → any p (blocksFrom l k (n - k)) ≡ false
-  unfolding any
-  any-done p h = rw (blocks-done h)
+  pub all-done : (p : Block → Bool) → n ≤ k → all p (blocksFrom l k (n - k)) ≡ true
+  unfolding all
+  all-done p h = rw (blocks-done h)
 
 pub blocks-all : (l : List Float) → blocksFrom l 0 (length l / 8 - 0) ≡ blocksOf l
 blocks-all l = ap (blocksFrom l 0) (omega arith)

@@ -1,5 +1,4 @@
 pub mod Blocks
-pub mod Worst
 pub mod Tables
 pub mod Scanning
 pub mod Finding

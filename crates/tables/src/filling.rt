@@ -1,5 +1,6 @@
 // One pass over the rows before the first candidate: refusals 5 and 6, and the table.
 use crate::table;
+use byte_lists::doubles::double_at;
 use rows::block::Block;
 use rows::reading;
 use rows::reading::Reading;
@@ -9,6 +10,7 @@ ghost use Prim.Native.Nat.{_+_, _*_, _/_, _≤_};
 ghost use lib.ListN.{length};
 ghost use lib.Ieee.{Float};
 ghost use Rattle.rows.specs.Rows.{rowsOf, fold};
+ghost use Rattle.byte_lists.specs.Bytes.{doublesOf};
 ghost use Rattle.tables.specs.Findings.{countOf, foundIn, unmet, withBlock, foundReading, foundRow, start, found};
 
 // The rows so far: a refused one among them, or the number of blocks in the table.
@@ -68,28 +70,32 @@ fn enter(r: Reading, table: &mut [f64], s: Filled) -> Filled
     }
 }
 
-fn fill_rows(tol: f64, a: f64, rows: &[f64], table: &mut [f64]) -> Filled
-    requires { ⌜ length (now rows) / 3 ≤ length (now table) / 8 ⌝ }
-    ensures { λ v. ⌜ (foundIn (now (table .exit)) v ≡ fold (foundRow tol a) start (rowsOf (now (rows .entry)))) × (3 * countOf v ≤ length (now (rows .entry))) ⌝ }
+fn fill_rows(tol: f64, a: f64, rows: &[u8], table: &mut [f64]) -> Filled
+    requires { ⌜ length (now rows) / 8 / 3 ≤ length (now table) / 8 ⌝ }
+    ensures { λ v. ⌜ (foundIn (now (table .exit)) v ≡ fold (foundRow tol a) start (rowsOf (doublesOf (now (rows .entry))))) × (3 * countOf v ≤ length (now (rows .entry)) / 8) ⌝ }
 {
+    let n = rows.len() / 8;
     let mut state = Filled::Ready(0);
     let mut i = 0;
-    while 3 <= rows.len() - i {
-        state = enter(
-            reading::read(tol, a, rows[i], rows[i + 1], rows[i + 2]),
-            table,
-            state,
+    while 3 <= n - i {
+        let r = reading::read(
+            tol,
+            a,
+            double_at(rows, i),
+            double_at(rows, i + 1),
+            double_at(rows, i + 2),
         );
+        state = enter(r, table, state);
         i += 3;
     }
     state
 }
 
 // A table with no room for a block for each row fits no rows.
-pub fn fill(tol: f64, a: f64, rows: &[f64], table: &mut [f64]) -> Filled
-    ensures { λ v. ⌜ (foundIn (now (table .exit)) v ≡ found tol a (now (rows .entry)) (length (now (table .entry)))) × (3 * countOf v ≤ length (now (rows .entry))) ⌝ }
+pub fn fill(tol: f64, a: f64, rows: &[u8], table: &mut [f64]) -> Filled
+    ensures { λ v. ⌜ (foundIn (now (table .exit)) v ≡ found tol a (doublesOf (now (rows .entry))) (length (now (table .entry)))) × (8 * countOf v ≤ length (now (table .entry))) ⌝ }
 {
-    if rows.len() / 3 <= table.len() / 8 {
+    if rows.len() / 8 / 3 <= table.len() / 8 {
         return fill_rows(tol, a, rows, table);
     }
     Filled::SomeUnfit

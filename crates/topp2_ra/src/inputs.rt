@@ -9,6 +9,7 @@ use refusals::chain::unless;
 use rows::whole;
 ghost use mathlib.Core.Path.{_≡_};
 ghost use mathlib.Core.Bool.{_&&_};
+ghost use Rattle.byte_lists.specs.Bytes.{doublesOf};
 ghost use Rattle.topp2_ra.specs.Recovery.{tolerance, tolerancesGood, noneNan, inputsGood, insidePrevious, previousGood, currentGood, requestNo};
 
 fn is_tolerance(t: f64) -> bool
@@ -107,10 +108,10 @@ fn current_good(q: Request) -> bool
     three_true(size::finite(low), size::finite(high), !(high < low))
 }
 
-pub(crate) fn refusal(q: Request, rows: &[f64]) -> u64
-    ensures { λ r. ⌜ r ≡ requestNo q (now (rows .entry)) ⌝ }
+pub(crate) fn refusal(q: Request, rows: &[u8]) -> u64
+    ensures { λ r. ⌜ r ≡ requestNo q (doublesOf (now (rows .entry))) ⌝ }
 {
     let outside = or(unless(previous_good(q), 3), unless(current_good(q), 4));
     let inputs = or(unless(inputs_good(q), 2), outside);
-    or(unless(whole::whole_rows(rows.len()), 1), inputs)
+    or(unless(whole::whole_rows(rows.len() / 8), 1), inputs)
 }

@@ -4,10 +4,11 @@ use limits::request::Request;
 use search::answer::Answer;
 use search::recovery;
 ghost use mathlib.Core.Path.{_≡_};
+ghost use Rattle.byte_lists.specs.Bytes.{doublesOf};
 ghost use Rattle.topp2_ra.specs.Recovery.{recovered};
 
-pub fn recover_forward_intersection(q: Request, rows: &[f64]) -> Answer
-    ensures { λ a. ⌜ a ≡ recovered q (now (rows .entry)) ⌝ }
+pub fn recover_forward_intersection(q: Request, rows: &[u8]) -> Answer
+    ensures { λ a. ⌜ a ≡ recovered q (doublesOf (now (rows .entry))) ⌝ }
 {
     let number = inputs::refusal(q, rows);
     if number == 0 {

@@ -15,14 +15,14 @@ enum-told-2 c = search needs
 enum-known-j : tie.Need-enum-known-j
 enum-known-j c = search needs
 
-maximum-requires : tie.Need-maximum-requires
-maximum-requires c κs = search needs
+worse-requires : tie.Need-worse-requires
+worse-requires c κs = search needs
 
-maximum-requires-2 : tie.Need-maximum-requires-2
-maximum-requires-2 c κs = search needs
+worse-requires-2 : tie.Need-worse-requires-2
+worse-requires-2 c κs = search needs
 
-maximum-requires-3 : tie.Need-maximum-requires-3
-maximum-requires-3 c κs = search needs
+worse-requires-3 : tie.Need-worse-requires-3
+worse-requires-3 c κs = search needs
 
 returns : tie.Need-returns
 unfolding counted
@@ -38,9 +38,9 @@ returns-3 c =
     let m = c .before .before in
     let j = m .before .before in
     simp (
-      ← c .maximum3 .ensures,
-      ← c .before .maximum2 .ensures,
-      ← m .maximum .ensures,
+      ← c .worse3 .ensures,
+      ← c .before .worse2 .ensures,
+      ← m .worse .ensures,
       j .j .given .1,
       j .before .before .before .c .given .1,
     )
@@ -53,9 +53,9 @@ count-spec =
     enum-known-c
     enum-told-2
     enum-known-j
-    maximum-requires
-    maximum-requires-2
-    maximum-requires-3
+    worse-requires
+    worse-requires-2
+    worse-requires-3
     returns
     returns-2
     returns-3)

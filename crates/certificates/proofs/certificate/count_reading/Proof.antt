@@ -12,6 +12,9 @@ enum-told-2 c = search needs
 enum-told-3 : tie.Need-enum-told-3
 enum-told-3 c = search needs
 
+same-requires : tie.Need-same-requires
+same-requires c κs = search needs
+
 enum-known-r : tie.Need-enum-known-r
 enum-known-r c = search needs
 
@@ -31,7 +34,7 @@ returns-2 c = simp (c .enum-told2 .given .1)
 
 returns-3 : tie.Need-returns-3
 unfolding countedReading
-returns-3 c = simp (c .enum-told3 .given .1)
+returns-3 c = simp (c .before .enum-told3 .given .1) (c .same .ensures)
 
 returns-4 : tie.Need-returns-4
 unfolding countedReading
@@ -44,6 +47,7 @@ count-reading-spec =
     enum-told
     enum-told-2
     enum-told-3
+    same-requires
     enum-known-r
     judge-requires
     count-requires

@@ -1,4 +1,4 @@
-use Rattle.search.specs.Search.{stops}
+use Rattle.search.specs.OnTable.{meet}
 use borrow.Author.Needs.{needs}
 use Rattle.search.proofs.halving.at_an_end.Statement.{statement}
 use Rattle.search.proofs.halving.at_an_end.Tie as tie
@@ -7,20 +7,12 @@ middle-requires : tie.Need-middle-requires
 middle-requires c κs = search needs
 
 returns : tie.Need-returns
-unfolding stops
-returns c =
-    simp (
-      c .if1 .taken,
-      ← c .before .before .middle .ensures,
-    )
+unfolding meet
+returns c = simp (c .if1 .taken, ← c .before .before .middle .ensures)
 
 returns-2 : tie.Need-returns-2
-unfolding stops
-returns-2 c =
-    simp (
-      c .before .if1 .left,
-      ← c .before .before .before .middle .ensures,
-    )
+unfolding meet
+returns-2 c = simp (c .before .if1 .left, ← c .before .before .before .middle .ensures)
 
 pub at-an-end-spec : {M : Type 1} → statement M
 at-an-end-spec = tie.close (tie.spec middle-requires returns returns-2)

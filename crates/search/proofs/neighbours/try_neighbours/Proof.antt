@@ -12,12 +12,12 @@ use Rattle.search.proofs.neighbours.try_neighbours.Statement.{statement
 use Rattle.search.proofs.neighbours.try_neighbours.Tie as tie
 
 abbrev Inv-loop : tie.InvT-loop
-Inv-loop q table s x₀ tried₀ x tried =
-    let cert = certificateOn q (blocksOf table) in
+Inv-loop tol bounds table s x₀ tried₀ x tried =
+    let cert = certificateOn tol bounds (blocksOf table) in
     (1 ≤ tried) × (tried ≤ 6) × (neighbours cert (s .low) (6 - tried) (lt x (s .low)) (cert x) x tried ≡ tryNeighbours cert s)
 
 abbrev μ-loop : tie.MeasureT-loop
-μ-loop q table s x₀ tried₀ x tried = 6 - tried
+μ-loop tol bounds table s x₀ tried₀ x tried = 6 - tried
 
 loop-holds : tie.Need-loop-holds Inv-loop μ-loop
 unfolding tryNeighbours
@@ -29,7 +29,7 @@ returns c =
     let at = c .before .before .before in
     let a = at .before .before .args in
     let l = at .loop in
-    let cert = certificateOn (a .q) (blocksOf (a .table .now)) in
+    let cert = certificateOn (a .tol) (a .bounds) (blocksOf (a .table .now)) in
     (sym (near-below cert (a .s .low) (6 - l .tried) (lt (l .x) (a .s .low)) (cert (l .x)) (l .x) (l .tried) (c .if1 .taken)) ∙ l .inv .2, omega arith)
 
 add-tried : tie.Need-add-tried Inv-loop μ-loop
@@ -49,7 +49,7 @@ returns-2 c =
     let at = n .before .before .before .before in
     let a = at .before .before .args in
     let l = at .loop in
-    let cert = certificateOn (a .q) (blocksOf (a .table .now)) in
+    let cert = certificateOn (a .tol) (a .bounds) (blocksOf (a .table .now)) in
     let passed = sym (n .certify .ensures) ∙ c .before .worst-normalized .given .1 in
     let here = near-found cert (a .s .low) (6 - l .tried) (lt (l .x) (a .s .low)) (cert (l .x)) (l .x) (l .tried) _ _ (omega arith) (n .before .if1 .left) passed in
     (sym here ∙ l .inv .2, omega arith)
@@ -72,7 +72,7 @@ loop-again c =
     let a = at .before .before .args in
     let l = at .loop in
     let low = a .s .low in
-    let cert = certificateOn (a .q) (blocksOf (a .table .now)) in
+    let cert = certificateOn (a .tol) (a .bounds) (blocksOf (a .table .now)) in
     let t = l .tried in
     let y = nextDown binary64 (l .x) in
     let d : 6 - t - 1 ≡ 6 - (t + 1) = omega arith in
@@ -90,7 +90,7 @@ returns-3 c =
     let at = c .before in
     let a = at .before .before .args in
     let l = at .loop in
-    let cert = certificateOn (a .q) (blocksOf (a .table .now)) in
+    let cert = certificateOn (a .tol) (a .bounds) (blocksOf (a .table .now)) in
     (sym (near-end cert (a .s .low) (6 - l .tried) (lt (l .x) (a .s .low)) (cert (l .x)) (l .x) (l .tried) (omega arith)) ∙ l .inv .2, omega arith)
 
 pub try-neighbours-spec : {M : Type 1} → statement M

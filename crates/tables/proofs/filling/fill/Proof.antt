@@ -1,6 +1,8 @@
 use mathlib.Core.Path.{_∙_}
 use native.Mathlib.Omega.{arith}
 use lib.ListN.{length}
+use Rattle.byte_lists.specs.Bytes.{doublesOf}
+use Rattle.byte_lists.proofs.Fronts.{length-doubles}
 use Rattle.tables.proofs.Finding.{found-room, found-none}
 use borrow.Author.Needs.{needs}
 use Rattle.tables.proofs.filling.fill.Statement.{statement}
@@ -17,12 +19,12 @@ returns c =
     let r = c .before .before .fill-rows .ensures in
     let room = c .before .before .before .before in
     let a = room .before .before .before .args in
-    (r .0 ∙ found-room (a .tol) (a .a) (a .rows .now) (length (a .table .now)) (room .if1 .taken), r .1)
+    (r .0 ∙ found-room (a .tol) (a .a) (doublesOf (a .rows .now)) (length (a .table .now)) (omega (arith, length-doubles (a .rows .now), room .if1 .taken)), omega (arith, r .1, room .if1 .taken))
 
 returns-2 : tie.Need-returns-2
 returns-2 c =
     let a = c .before .before .before .args in
-    (found-none (a .tol) (a .a) (a .rows .now) (length (a .table .now)) (c .if1 .left), omega arith)
+    (found-none (a .tol) (a .a) (doublesOf (a .rows .now)) (length (a .table .now)) (omega (arith, length-doubles (a .rows .now), c .if1 .left)), omega arith)
 
 pub fill-spec : {M : Type 1} → statement M
 fill-spec = tie.close (tie.spec fill-rows-requires same-length returns returns-2)

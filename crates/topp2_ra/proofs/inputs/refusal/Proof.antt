@@ -1,6 +1,7 @@
+use mathlib.Core.Path.{_∙_}
 use Rattle.refusals.proofs.Chains.{tested, chained}
-use Rattle.rows.specs.Rows.{wholeRows}
 use Rattle.topp2_ra.specs.Recovery.{requestNo}
+use Rattle.topp2_ra.proofs.Refusing.{whole-bytes}
 use borrow.Author.Needs.{needs}
 use Rattle.topp2_ra.proofs.inputs.refusal.Statement.{statement}
 use Rattle.topp2_ra.proofs.inputs.refusal.Tie as tie
@@ -39,12 +40,12 @@ or-requires-3 : tie.Need-or-requires-3
 or-requires-3 c κs = search needs
 
 returns : tie.Need-returns
-unfolding requestNo wholeRows
+unfolding requestNo
 returns c =
     let two = c .before .before .before in
     let three = two .before .before .before in
     let four = three .before in
-    chained 1 (c .or3 .ensures) (c .before .unless4 .ensures) (c .before .before .whole-rows .ensures)
+    chained 1 (c .or3 .ensures) (c .before .unless4 .ensures) (c .before .before .whole-rows .ensures ∙ whole-bytes (c .before .before .before .before .before .before .before .before .before .before .before .before .args .rows .now))
     (chained 2 (two .or2 .ensures) (two .before .unless3 .ensures) (two .before .before .inputs-good .ensures)
     (chained 3 (three .or .ensures) (four .before .before .unless .ensures) (four .before .before .before .previous-good .ensures)
     (tested 4 (four .unless2 .ensures) (four .before .current-good .ensures))))

@@ -7,7 +7,11 @@ use Rattle.number.specs.Leaves.{negative, countsBelow, maximum}
 use Rattle.number.proofs.Order.{holds, number, signed, below-zero, lt-number, lt-not-le}
 use Rattle.number.proofs.Picks.{maximum-more}
 use Rattle.number.specs.Doubles.{zero}
-use Rattle.tables.specs.ByBlocks.{fromZero}
+use Rattle.certificates.specs.RowByRow.{worse}
+
+-- +0 or a number above it
+unfoldable pub fromZero : Float → Bool
+fromZero x = not (isNan x) && not (negative x)
 
 above : (w : Float) → T (fromZero w) → T (signed false w)
 unfolding fromZero isNan negative
@@ -27,12 +31,6 @@ from (fin true m e) n h = absurd (h tt)
 from (fin false m e) n h = tt
 
 module _ (w x : Float) (h : T (fromZero w)) where
-  pub worse-is : lt w x ≡ true → x ≡ maximum w x
-  worse-is l = maximum-more w x l
-
-  pub worse-from : lt w x ≡ true → T (fromZero x)
-  worse-from l = from x (lt-number w x (holds l) .1) (λ s. lt-not-le w x (holds l) (below-zero x w s (above w h)))
-
   -- the parts of fromZero
   no-nan : isNan w ≡ false
   unfolding fromZero
@@ -51,7 +49,7 @@ module _ (w x : Float) (h : T (fromZero w)) where
       go false true t = absurd t
       go false false t = refl
 
-  pub kept-is : lt w x ≡ false → w ≡ maximum w x
+  kept-is : lt w x ≡ false → w ≡ maximum w x
   unfolding maximum countsBelow
   kept-is l = rw (no-nan, no-sign, l) (go (isNan x) (eq w x))
     where
@@ -59,6 +57,22 @@ module _ (w x : Float) (h : T (fromZero w)) where
       go true c = refl
       go false true = refl
       go false false = refl
+
+  pub worse-is : worse w x ≡ maximum w x
+  unfolding worse
+  worse-is = go (lt w x) refl
+    where
+      go : (b : Bool) → lt w x ≡ b → cond b x w ≡ maximum w x
+      go true l = maximum-more w x l
+      go false l = kept-is l
+
+  pub worse-from : T (fromZero (worse w x))
+  unfolding worse
+  worse-from = go (lt w x) refl
+    where
+      go : (b : Bool) → lt w x ≡ b → T (fromZero (cond b x w))
+      go true l = from x (lt-number w x (holds l) .1) (λ s. lt-not-le w x (holds l) (below-zero x w s (above w h)))
+      go false l = h
 
 pub zero-from : T (fromZero zero)
 unfolding fromZero isNan negative ofBits
