@@ -1,20 +1,14 @@
 -- One double more, written as eight bytes after those before it.
-use Prim.Native.Nat.{ℕ, _+_, _*_, _/_, _%_, _^_, _≤_, _<_, min}
+use Prim.Native.Nat.{ℕ, _+_, _*_, _/_, _%_, _^_, _≤_, _<_}
 use mathlib.Core.Path.{_≡_, sym, ap, _∙_}
 use mathlib.Core.List.{List}
-use native.Mathlib.Nat.{min-le-left, min-le-right}
 use native.Mathlib.Omega.{arith}
 use lib.ListN.{length, set}
 use lib.Ieee.{Float, binary64, toBits}
 use Rattle.loops.specs.Upto.{filled}
-use Rattle.loops.proofs.Filling.{fill-turn}
-use Rattle.byte_lists.specs.Bytes.{byteOf, fourPut, wordPut}
-
-pub at-most-left : (a b n : ℕ) → n ≡ min a b → n ≤ a
-at-most-left a b n e = omega (arith, e, min-le-left a b)
-
-pub at-most-right : (a b n : ℕ) → n ≡ min a b → n ≤ b
-at-most-right a b n e = omega (arith, e, min-le-right a b)
+use Rattle.loops.proofs.Filling.{fill-turn, fill-same, length-filled}
+use borrow.Author.Tests.{lt-ltb}
+use Rattle.byte_lists.specs.Bytes.{byteOf, fourPut, wordPut, doublePut}
 
 module _ (f : ℕ → ℕ) (old : List ℕ) where
   turn : (i j : ℕ) (l : List ℕ) (v : ℕ) → i < length old → j ≡ i + 1 → l ≡ filled f i old → v ≡ f i → set l i v ≡ filled f j old
@@ -52,3 +46,15 @@ fill-word f k w old l h e b =
     (byte 6 _ _ (omega arith) (omega arith) (omega arith))
     (byte 7 _ _ (omega arith) (omega arith) (omega arith))
     ∙ ap (λ (n : ℕ). filled (byteOf f) n old) (omega arith)
+
+pub fill-put : (f : ℕ → Float) (k : ℕ) (x : Float) (old l new : List ℕ) → k < length old / 8 → l ≡ filled (byteOf f) (8 * k) old → x ≡ f k → new ≡ doublePut l k x
+    → new ≡ filled (byteOf f) (8 * (k + 1)) old
+unfolding doublePut
+fill-put f k x old l new h e v g =
+    let same : length l ≡ length old = ap length e ∙ length-filled (byteOf f) (8 * k) old (omega arith) in
+    rw (lt-ltb k (length l / 8) (omega arith)) at g ∙ fill-word f k (toBits binary64 x) old l (omega arith) e (ap (toBits binary64) v)
+
+-- entries that are the same are written alike
+pub bytes-same : (f g : ℕ → Float) (n : ℕ) (old : List ℕ) → ((k : ℕ) → k < n → f k ≡ g k) → filled (byteOf f) (8 * n) old ≡ filled (byteOf g) (8 * n) old
+unfolding byteOf
+bytes-same f g n old h = fill-same _ _ (8 * n) old (λ i l. rw (h (i / 8) (omega arith)))

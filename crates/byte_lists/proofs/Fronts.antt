@@ -1,15 +1,14 @@
--- The doubles of a list of bytes, one by one, and decoded into the front of an array with room for them.
-use Prim.Native.Nat.{ℕ, _/_, _≤_, _<_, min}
+-- The doubles of a list of bytes, one by one.
+use Prim.Native.Nat.{ℕ, _/_, _≤_, _<_}
 use mathlib.Core.Path.{_≡_, sym, ap, _∙_}
 use mathlib.Core.List.{List}
-use native.Mathlib.Nat.{min-eq-left}
 use native.Mathlib.Omega.{arith}
-use lib.ListN.{length, take, drop, List·getD-eq-default}
-use lib.Seq.{take-at}
-use lib.Ieee.{Float, nan}
-use Rattle.loops.specs.Upto.{table, filled, at}
+use lib.ListN.{length, List·getD-eq-default}
+use lib.Ieee.{Float, nan, binary64, ofBits}
+use borrow.Author.Tests.{lt-ltb}
+use Rattle.loops.specs.Upto.{at}
 use Rattle.loops.proofs.Filling.{length-table, table-at}
-use Rattle.byte_lists.specs.Bytes.{doubleAt, doublesOf}
+use Rattle.byte_lists.specs.Bytes.{doubleAt, patternAt, doublesOf}
 
 pub length-doubles : (l : List ℕ) → length (doublesOf l) ≡ length l / 8
 unfolding doublesOf
@@ -23,13 +22,7 @@ double-within b k h = table-at (doubleAt b) (length b / 8) k h
 pub double-past : (b : List ℕ) (k : ℕ) → length b / 8 ≤ k → at (doublesOf b) k ≡ nan
 double-past b k h = List·getD-eq-default (doublesOf b) nan (omega (arith, length-doubles b))
 
-front-doubles : (b : List ℕ) (old : List Float) → take (length b / 8) (filled (doubleAt b) (length b / 8) old) ≡ doublesOf b
-unfolding filled doublesOf
-front-doubles b old = take-at (table (doubleAt b) (length b / 8)) (drop (length b / 8) old) (length b / 8) (length-table (doubleAt b) (length b / 8))
-
-module _ (b : List ℕ) (old new : List Float) {most : ℕ} (e : new ≡ filled (doubleAt b) (min (length b / 8) most) old) (h : length b / 8 ≤ most) where
-  pub front-is : take (length b / 8) new ≡ doublesOf b
-  front-is = rw (e, min-eq-left h) (front-doubles b old)
-
-  pub front-count : length b / 8 ≡ length (take (length b / 8) new)
-  front-count = sym (ap length front-is ∙ length-doubles b)
+-- the pattern at a place reads as the double there
+pub pattern-within : (b : List ℕ) (k w : ℕ) → k < length b / 8 → w ≡ patternAt b k → ofBits binary64 w ≡ at (doublesOf b) k
+unfolding patternAt
+pattern-within b k w h e = rw (lt-ltb k (length b / 8) h) at (ap (ofBits binary64) e) ∙ sym (double-within b k h)

@@ -1,4 +1,4 @@
 pub mod Encoding
 pub mod Fronts
-pub mod Aside
 pub mod Tens
+pub mod Replies

@@ -1,20 +1,10 @@
 -- 10 comes before all others.
 use Prim.Native.Nat.{ℕ}
-use mathlib.Core.Path.{_≡_, refl}
-use mathlib.Core.Bool.{Bool, true, false, _&&_}
+use mathlib.Core.Path.{_≡_}
+use mathlib.Core.Bool.{Bool, true, false}
 use mathlib.Core.List.{List}
 use Rattle.refusals.specs.Refusals.{unless, _or_}
 use Rattle.refusals.specs.Outcome.{Outcome}
-
-pub all-six : (p q : Bool) → p ≡ true → q ≡ true → p && q ≡ true
-all-six p q e f = rw (e, f)
-
-pub not-first : (p q : Bool) → p ≡ false → p && q ≡ false
-not-first p q e = rw e
-
-pub not-second : (p q : Bool) → q ≡ false → p && q ≡ false
-not-second true q e = e
-not-second false q e = refl
 
 module _ (whole : Bool) where
   pub ten-answered : {A E : Type 0} {done : A} {refused : ℕ → A} {number : ℕ} {entry : ℕ → E} {n : ℕ} {old new : List E} {x : A} → whole ≡ true

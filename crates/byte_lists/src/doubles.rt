@@ -3,11 +3,11 @@ use patterns::pattern::double_of;
 use patterns::pattern::pattern_of;
 ghost use mathlib.Core.Path.{_≡_};
 ghost use mathlib.Core.Bool.{_&&_};
-ghost use Prim.Native.Nat.{_+_, _*_, _/_, _%_, _≤_, _<_, _^_, min};
+ghost use Prim.Native.Nat.{_+_, _%_, _≤_, _<_, _^_};
 ghost use lib.Dec.{eqb};
 ghost use lib.ListN.{length};
-ghost use Rattle.loops.specs.Upto.{at, filled};
-ghost use Rattle.byte_lists.specs.Bytes.{fourAt, wordAt, doubleAt, doublesOf, byteOf, fourPut, wordPut};
+ghost use Rattle.loops.specs.Upto.{at};
+ghost use Rattle.byte_lists.specs.Bytes.{fourAt, wordAt, patternAt, doublesOf, fourPut, wordPut, doublePut};
 
 // 10 is refused where one of three lengths is not divisible by eight.
 pub fn in_eights(a: usize, b: usize, c: usize) -> bool
@@ -19,19 +19,6 @@ pub fn in_eights(a: usize, b: usize, c: usize) -> bool
         }
     }
     false
-}
-
-fn least(a: usize, b: usize) -> usize
-    ensures { λ r. ⌜ r ≡ min a b ⌝ }
-{
-    if a < b { a } else { b }
-}
-
-// How many doubles fit in so many bytes, `most` at the most.
-pub fn room(bytes: usize, most: usize) -> usize
-    ensures { λ r. ⌜ r ≡ min (bytes / 8) most ⌝ }
-{
-    least(bytes / 8, most)
 }
 
 fn wide(x: u8) -> u64
@@ -54,6 +41,17 @@ fn word_at(b: &[u8], i: usize) -> u64
     four_at(b, i) + 0x1_0000_0000 * four_at(b, i + 4)
 }
 
+// The pattern at place k of b, 0 where there is none.
+pub fn pattern_at(b: &[u8], k: usize) -> u64
+    ensures { λ r. ⌜ r ≡ patternAt (now (b .entry)) k ⌝ }
+{
+    if k < b.len() / 8 {
+        word_at(b, 8 * k)
+    } else {
+        0
+    }
+}
+
 // The double at place k of b, NaN where there is none.
 pub fn double_at(b: &[u8], k: usize) -> f64
     ensures { λ r. ⌜ r ≡ at (doublesOf (now (b .entry))) k ⌝ }
@@ -62,18 +60,6 @@ pub fn double_at(b: &[u8], k: usize) -> f64
         double_of(word_at(b, 8 * k))
     } else {
         0.0 / 0.0
-    }
-}
-
-// The doubles of b, at the front of out, as far as both go.
-pub fn decode(b: &[u8], out: &mut [f64])
-    ensures { λ _. ⌜ now (out .exit) ≡ filled (doubleAt (now (b .entry))) (min (length (now (b .entry)) / 8) (length (now (out .entry)))) (now (out .entry)) ⌝ }
-{
-    let n = room(b.len(), out.len());
-    let mut k = 0;
-    while k < n {
-        out[k] = double_of(word_at(b, 8 * k));
-        k += 1;
     }
 }
 
@@ -102,14 +88,11 @@ fn put_word(b: &mut [u8], i: usize, w: u64)
     put_four(b, i + 4, w / 0x1_0000_0000);
 }
 
-// The first n doubles of x, at the front of out, as far as both go.
-pub fn encode(x: &[f64], n: usize, out: &mut [u8])
-    ensures { λ _. ⌜ now (out .exit) ≡ filled (byteOf (at (now (x .entry)))) (8 * min n (min (length (now (out .entry)) / 8) (length (now (x .entry))))) (now (out .entry)) ⌝ }
+// x at place k of b, where there is one.
+pub fn put(b: &mut [u8], k: usize, x: f64)
+    ensures { λ _. ⌜ now (b .exit) ≡ doublePut (now (b .entry)) k x ⌝ }
 {
-    let m = least(n, room(out.len(), x.len()));
-    let mut k = 0;
-    while k < m {
-        put_word(out, 8 * k, pattern_of(x[k]));
-        k += 1;
+    if k < b.len() / 8 {
+        put_word(b, 8 * k, pattern_of(x));
     }
 }

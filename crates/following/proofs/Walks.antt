@@ -1,31 +1,24 @@
 -- Laws of the walk of t to s: the interval that is carried from a time to the next, and the counts of one time more.
-use Prim.Native.Nat.{ℕ, _+_, _-_, _<_, _≤_}
+use Prim.Native.Nat.{ℕ, _+_, _-_, _<_, _≤_, _^_}
 use mathlib.Core.Path.{_≡_, refl, sym, ap, _∙_}
 use mathlib.Core.Bool.{Bool, true, false, not, _&&_}
 use mathlib.Core.List.{List}
 use mathlib.Core.Logic.{⊎-elim}
 use native.Mathlib.Nat.{add-zero, eq-or-lt-of-le}
 use native.Mathlib.Omega.{arith}
-use borrow.Author.Tests.{not-false, not-true, eqb-true, eq-eqb, leb-true, le-leb, ltb-true, lt-ltb}
-use lib.Dec.{T, eqb, leb, ltb}
+use borrow.Author.Tests.{not-false, not-true, ltb-true, ltb-false, lt-ltb, le-ltb, ne-eqb}
+use lib.Dec.{T, ltb}
 use lib.ListN.{length}
 use lib.Ieee.{Float, lt, le}
 use lib.Ieee.Bits.{is-true}
 use Rattle.number.proofs.Order.{holds, fails, lt-le-transitive, le-lt-transitive}
 use Rattle.loops.specs.Upto.{count, at}
-use Rattle.refusals.specs.Most.{mostSamples}
 use Rattle.loops.proofs.Counting.{and-left, and-right, count-le, count-more, count-stretch, first-is, first-before, first-le}
 use Rattle.pieces.specs.Pieces.{stationInside, stationIn}
 use Rattle.following.specs.Places.{intervalOf, isBefore, isInside, isPast, stationAt, countsOf}
-use Rattle.following.specs.Following.{reaches, inStep, inRoom, fitting, Reaches, Standing, stays, AllInside, Bounded, oneMore, moreInside, tallied}
+use Rattle.following.specs.Following.{lastEntry, Standing, stays, AllInside, Bounded, oneMore, moreInside, tallied}
 use Rattle.following.specs.declared.interval.Cursor.{Cursor}
 use Rattle.following.specs.declared.pass.Counts.{Counts}
-use Rattle.following.specs.declared.pass.Source.{Source}
-use Rattle.following.specs.declared.pass.Source.the-variants.{Listed, Even}
-
-pub reaches-less : (source : Source) (x : List Float) (n k : ℕ) → Reaches source x n → k ≤ n → Reaches source x k
-reaches-less Listed x n k h l = omega arith
-reaches-less (Even t0 dt) x n k h l = tt
 
 pub interval-le : (t : List Float) (x : Float) → intervalOf t x ≤ length t - 1
 unfolding intervalOf
@@ -43,17 +36,23 @@ pub inside-within : (t : List Float) (x : Float) → isInside t x ≡ true → i
 unfolding isInside
 inside-within t x h = ltb-true (intervalOf t x) (length t - 1) (and-right (not (isBefore t x)) (ltb (intervalOf t x) (length t - 1)) h)
 
+-- one place short of the last, by the length of the list
+pub next-within : (k n : ℕ) → ltb (k + 1) n ≡ ltb k (n - 1)
+next-within k n = go (ltb (k + 1) n) refl
+  where
+    go : (b : Bool) → ltb (k + 1) n ≡ b → b ≡ ltb k (n - 1)
+    go true e = let l = ltb-true (k + 1) n e in sym (lt-ltb k (n - 1) (omega arith))
+    go false e = let l = ltb-false (k + 1) n e in sym (le-ltb k (n - 1) (omega arith))
+
 -- and below any time that is not below x
 pub still-below : (x y z : Float) → lt x y ≡ true → le y z ≡ true → lt x z ≡ true
 still-below x y z p q = is-true _ (lt-le-transitive x y z (holds p) (holds q))
 
 -- the station that the walk's piece gives
-pub station-held : (s a t : List Float) (w : Cursor) (x : Float) → length t ≡ length s → w .interval ≡ intervalOf t x → Standing s a t w → isInside t x ≡ true
+pub station-held : (s a t : List Float) (w : Cursor) (x : Float) → w .interval ≡ intervalOf t x → Standing s a t w → isInside t x ≡ true
     → stationInside (w .piece) x ≡ stationAt s a t x
 unfolding stationAt stationIn
-station-held s a t w x e k h i =
-    let l = inside-within t x i in
-    rw (h .held (omega arith), i, ← k)
+station-held s a t w x k h i = rw (h .held, i, ← k)
 
 pub inside-not-before : (t : List Float) (x : Float) → isInside t x ≡ true → isBefore t x ≡ false
 unfolding isInside
@@ -78,12 +77,12 @@ module _
     (h : Standing s a t w)
     (k : w .interval ≡ intervalOf t (w .time))
     (i : isInside t (w .time) ≡ true)
-    (y : stays t w x ≡ true) where
+    (y : stays w x ≡ true) where
   not-below : le (w .time) x ≡ true
-  not-below = and-left (le (w .time) x) (not (lt (at t (w .interval + 1)) x)) y
+  not-below = and-left (le (w .time) x) (not (lt (w .end) x)) y
 
   not-past : not (lt (at t (w .interval + 1)) x) ≡ true
-  not-past = and-right (le (w .time) x) (not (lt (at t (w .interval + 1)) x)) y
+  not-past = rw (← h .ends) (and-right (le (w .time) x) (not (lt (w .end) x)) y)
 
   pub same-interval : w .interval ≡ intervalOf t x
   unfolding intervalOf
@@ -95,6 +94,11 @@ module _
       let l = inside-within t (w .time) i in
       let b = not-below-too (w .time) x (at t 0) not-below (inside-not-before t (w .time) i) in
       rw (b, ← same-interval, lt-ltb (w .interval) (length t - 1) (omega arith))
+
+  -- the entry of such a time, which is time k of x
+  pub stays-entry : (y : Float) (f : ℕ → Float) (k : ℕ) → x ≡ f k → y ≡ stationInside (w .piece) x → (isInside t (f k) ≡ true) × (y ≡ stationAt s a t (f k))
+  stays-entry y f k e g =
+      (rw e at stays-inside, rw e at (g ∙ station-held s a t w x same-interval h stays-inside))
 
 pub inside-more : (t : List Float) (f : ℕ → Float) (start j : ℕ) → AllInside t f start j → isInside t (f j) ≡ true → AllInside t f start (j + 1)
 inside-more t f start j h i k l g =
@@ -133,47 +137,10 @@ pub counts-written : (t : List Float) (f : ℕ → Float) (n : ℕ) (c : Counts)
 unfolding countsOf
 counts-written t f n c e = rw e
 
-pub counts-bounded : (t : List Float) (f : ℕ → Float) (n : ℕ) (c : Counts) → c ≡ countsOf t f n n → n ≤ mostSamples → Bounded c
+pub counts-bounded : (t : List Float) (f : ℕ → Float) (n : ℕ) (c : Counts) → c ≡ countsOf t f n n → n ≤ 2 ^ 61 → Bounded c
 unfolding countsOf
 counts-bounded t f n c e h = rw e (record { few-before = count-le _ n; few-inside = count-le _ n; few-past = count-le _ n; few = h })
 
--- what a call that fits has
-reached : (source : Source) (x : List Float) (n : ℕ) → reaches source (length x) n ≡ true → Reaches source x n
-reached Listed x n h = leb-true n (length x) h
-reached (Even t0 dt) x n h = tt
-
-pub in-step : (stations speeds times : ℕ) → inStep stations speeds times ≡ true → (speeds ≡ stations) × (times ≡ stations) × (2 ≤ stations)
-in-step n m k h =
-    let later = eqb k n && leb 2 n in
-    let p = and-right (eqb m n) later h in
-    (eqb-true m n (and-left (eqb m n) later h), eqb-true k n (and-left (eqb k n) (leb 2 n) p), leb-true 2 n (and-right (eqb k n) (leb 2 n) p))
-
-pub in-room : (source : Source) (x : List Float) (n room : ℕ) → inRoom n room (reaches source (length x) n) ≡ true → (n ≤ mostSamples) × (n ≤ room) × Reaches source x n
-in-room source x n room h =
-    let last = reaches source (length x) n in
-    let later = leb n room && last in
-    let p = and-right (leb n mostSamples) later h in
-    (leb-true n mostSamples (and-left (leb n mostSamples) later h), leb-true n room (and-left (leb n room) last p), reached source x n (and-right (leb n room) last p))
-
-module _ (s a t : List Float) (source : Source) (x : List Float) (n room : ℕ) where
-  pub fitted : fitting s a t source x n room ≡ true
-      → (length a ≡ length s) × (length t ≡ length s) × (2 ≤ length s) × (n ≤ mostSamples) × (n ≤ room) × Reaches source x n
-  unfolding fitting
-  fitted h =
-      let lists = inStep (length s) (length a) (length t) in
-      let times = inRoom n room (reaches source (length x) n) in
-      let p = in-step _ _ _ (and-left lists times h) in
-      let q = in-room source x n room (and-right lists times h) in
-      (p .0, p .1, p .2, q .0, q .1, q .2)
-
-  pub fits-by-room : (b : Bool) → inStep (length s) (length a) (length t) ≡ true → inRoom n room (reaches source (length x) n) ≡ b → fitting s a t source x n room ≡ b
-  unfolding fitting
-  fits-by-room b h k = rw h k
-
-  pub out-of-step : inStep (length s) (length a) (length t) ≡ false → fitting s a t source x n room ≡ false
-  unfolding fitting
-  out-of-step h = rw h
-
-  pub fits : length a ≡ length s → length t ≡ length s → 2 ≤ length s → n ≤ mostSamples → n ≤ room → reaches source (length x) n ≡ true → fitting s a t source x n room ≡ true
-  unfolding fitting
-  fits p q l f r h = rw (eq-eqb (length a) (length s) p, eq-eqb (length t) (length s) q, le-leb 2 (length s) l, le-leb n mostSamples f, le-leb n room r, h)
+-- the last of r entries, where there is one
+pub last-entry : (f : ℕ → Float) (r : ℕ) (v : Float) → 0 < r → v ≡ f (r - 1) → v ≡ lastEntry f r
+last-entry f r v h e = rw (ne-eqb r 0 (λ z. omega arith)) e

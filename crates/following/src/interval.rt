@@ -1,4 +1,5 @@
 // The interval of one time, and the cursor that is carried from a time to the next.
+use byte_lists::doubles::double_at;
 use pieces::pair;
 use pieces::pair::Piece;
 ghost use mathlib.Core.Path.{_≡_};
@@ -8,31 +9,39 @@ ghost use lib.ListN.{length};
 ghost use lib.Ieee.{lt};
 ghost use Rattle.loops.specs.Upto.{at};
 ghost use Rattle.pieces.specs.Pieces.{pieceAt};
+ghost use Rattle.byte_lists.specs.Bytes.{doublesOf};
 ghost use Rattle.following.specs.Places.{intervalOf};
 ghost use Rattle.following.specs.Following.{Standing};
 
-// Where a walk over the times stands: the last time, its interval and, but past the last time, that interval's piece.
+// Where a walk over the times stands: the last time, its interval, the time at that interval's end and its piece. Past the last time both are NaN's.
 pub(crate) struct Cursor {
     pub time: f64,
     pub interval: usize,
+    pub end: f64,
     pub piece: Piece,
 }
 
-pub(crate) fn piece_at(s: &[f64], a: &[f64], t: &[f64], k: usize) -> Piece
-    requires { ⌜ (length (now a) ≡ length (now s)) × (length (now t) ≡ length (now s)) × (k + 1 < length (now s)) ⌝ }
-    ensures { λ r. ⌜ r ≡ pieceAt (now (s .entry)) (now (a .entry)) (now (t .entry)) k ⌝ }
+pub(crate) fn piece_at(s: &[u8], a: &[u8], t: &[u8], k: usize) -> Piece
+    requires { ⌜ k ≤ length (now t) ⌝ }
+    ensures { λ r. ⌜ r ≡ pieceAt (doublesOf (now (s .entry))) (doublesOf (now (a .entry))) (doublesOf (now (t .entry))) k ⌝ }
 {
-    pair::piece_of(s[k], s[k + 1], a[k], a[k + 1], t[k])
+    pair::piece_of(
+        double_at(s, k),
+        double_at(s, k + 1),
+        double_at(a, k),
+        double_at(a, k + 1),
+        double_at(t, k),
+    )
 }
 
 // The interval of x, looked for from one before which all end below x.
-fn interval_from(t: &[f64], x: f64, from: usize) -> usize
-    requires { ⌜ (from ≤ length (now t) - 1) × ((k : ℕ) → k < from → lt (at (now t) (k + 1)) x ≡ true) ⌝ }
-    ensures { λ r. ⌜ r ≡ intervalOf (now (t .entry)) x ⌝ }
+fn interval_from(t: &[u8], x: f64, from: usize) -> usize
+    requires { ⌜ (from ≤ length (doublesOf (now t)) - 1) × ((k : ℕ) → k < from → lt (at (doublesOf (now t)) (k + 1)) x ≡ true) ⌝ }
+    ensures { λ r. ⌜ r ≡ intervalOf (doublesOf (now (t .entry))) x ⌝ }
 {
     let mut k = from;
-    while k + 1 < t.len() {
-        if t[k + 1] < x {
+    while k + 1 < t.len() / 8 {
+        if double_at(t, k + 1) < x {
             k += 1;
         } else {
             return k;
@@ -42,36 +51,31 @@ fn interval_from(t: &[f64], x: f64, from: usize) -> usize
 }
 
 // Where to look from: the interval of y where y is not above x, and else the first.
-fn look_from(t: &[f64], x: f64, y: f64, from: usize) -> usize
-    requires { ⌜ (from ≤ length (now t) - 1) × ((k : ℕ) → k < from → lt (at (now t) (k + 1)) y ≡ true) ⌝ }
-    ensures { λ r. ⌜ (r ≤ length (now (t .entry)) - 1) × ((k : ℕ) → k < r → lt (at (now (t .entry)) (k + 1)) x ≡ true) ⌝ }
+fn look_from(t: &[u8], x: f64, y: f64, from: usize) -> usize
+    requires { ⌜ (from ≤ length (doublesOf (now t)) - 1) × ((k : ℕ) → k < from → lt (at (doublesOf (now t)) (k + 1)) y ≡ true) ⌝ }
+    ensures { λ r. ⌜ (r ≤ length (doublesOf (now (t .entry))) - 1) × ((k : ℕ) → k < r → lt (at (doublesOf (now (t .entry))) (k + 1)) x ≡ true) ⌝ }
 {
     if y <= x { from } else { 0 }
 }
 
-// The piece of interval k, where there is one: the old one if the interval is the old one.
-fn turned(p: Piece, s: &[f64], a: &[f64], t: &[f64], old: usize, k: usize) -> Piece
-    requires { ⌜ (length (now a) ≡ length (now s)) × (length (now t) ≡ length (now s)) × (k ≤ length (now s))
-        × (old + 1 < length (now s) → p ≡ pieceAt (now s) (now a) (now t) old) ⌝ }
-    ensures { λ r. ⌜ (k + 1 < length (now (s .entry)) → r ≡ pieceAt (now (s .entry)) (now (a .entry)) (now (t .entry)) k) ⌝ }
+// The piece of interval k: the old one if the interval is the old one.
+fn turned(p: Piece, s: &[u8], a: &[u8], t: &[u8], old: usize, k: usize) -> Piece
+    requires { ⌜ (k ≤ length (now t)) × (p ≡ pieceAt (doublesOf (now s)) (doublesOf (now a)) (doublesOf (now t)) old) ⌝ }
+    ensures { λ r. ⌜ r ≡ pieceAt (doublesOf (now (s .entry))) (doublesOf (now (a .entry))) (doublesOf (now (t .entry))) k ⌝ }
 {
-    if k == old {
-        return p;
-    }
-    if k + 1 < s.len() {
-        return piece_at(s, a, t, k);
-    }
-    p
+    if k == old { p } else { piece_at(s, a, t, k) }
 }
 
-pub(crate) fn advance(w: Cursor, s: &[f64], a: &[f64], t: &[f64], x: f64) -> Cursor
-    requires { ⌜ (length (now a) ≡ length (now s)) × (length (now t) ≡ length (now s)) × Standing (now s) (now a) (now t) w ⌝ }
-    ensures { λ r. ⌜ (r .interval ≡ intervalOf (now (t .entry)) x) × (r .time ≡ x) × Standing (now (s .entry)) (now (a .entry)) (now (t .entry)) r ⌝ }
+pub(crate) fn advance(w: Cursor, s: &[u8], a: &[u8], t: &[u8], x: f64) -> Cursor
+    requires { ⌜ Standing (doublesOf (now s)) (doublesOf (now a)) (doublesOf (now t)) w ⌝ }
+    ensures { λ r. ⌜ (r .interval ≡ intervalOf (doublesOf (now (t .entry))) x) × (r .time ≡ x)
+        × Standing (doublesOf (now (s .entry))) (doublesOf (now (a .entry))) (doublesOf (now (t .entry))) r ⌝ }
 {
     let k = interval_from(t, x, look_from(t, x, w.time, w.interval));
     Cursor {
         time: x,
         interval: k,
+        end: double_at(t, k + 1),
         piece: turned(w.piece, s, a, t, w.interval, k),
     }
 }

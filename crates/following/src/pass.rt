@@ -1,17 +1,20 @@
-// t to s: the station at each time of a list or of an even grid, by one pass for both.
+// t to s: the station at each time of a list or of an even grid, by one pass for both, straight into the output's bytes.
 use crate::interval;
 use crate::interval::Cursor;
+use byte_lists::doubles;
+use byte_lists::doubles::double_at;
 use pieces::pair;
 use refusals::most;
 ghost use mathlib.Core.Path.{_≡_};
 ghost use mathlib.Core.Bool.{true, not, cond, _&&_};
-ghost use Prim.Native.Nat.{_+_, _≤_, _<_};
+ghost use Prim.Native.Nat.{_+_, _*_, _-_, _/_, _≤_, _<_, _^_, min};
+ghost use lib.Dec.{leb};
 ghost use lib.ListN.{length};
 ghost use Rattle.loops.specs.Upto.{filled};
-ghost use Rattle.refusals.specs.Most.{mostSamples};
-ghost use Rattle.following.specs.Places.{intervalOf, isBefore, isInside, stationAt, gridTime, countsOf};
-ghost use Rattle.following.specs.Following.{timeOf, stationOf, reaches, inStep, inRoom, fitting, Passed};
-ghost use Rattle.following.specs.Following.{Reaches, Standing, stays, Followed, Bounded, oneMore, moreInside, tallied};
+ghost use Rattle.byte_lists.specs.Bytes.{doublesOf, byteOf};
+ghost use Rattle.following.specs.Places.{intervalOf, isBefore, isInside, stationAt, gridTime};
+ghost use Rattle.following.specs.Following.{timeOf, stationOf, Passed, Standing, stays, Ready, Followed, Bounded, oneMore, moreInside, tallied};
+ghost use Rattle.following.specs.declared.pass.Source.the-variants.{Listed, Even};
 
 // The times before, inside and past, and the entries written.
 pub struct Counts {
@@ -21,44 +24,53 @@ pub struct Counts {
     pub written: usize,
 }
 
+// What a pass finds: the counts, and the last entry, NaN where there is none.
+pub struct Passage {
+    pub counts: Counts,
+    pub last: f64,
+}
+
 // Where the times come from: a list, or t0 and dt of an even grid.
 pub enum Source {
     Listed,
     Even(f64, f64),
 }
 
+// A number of 32 bits is a double at once.
 fn grid_time(t0: f64, dt: f64, i: u64) -> f64
     ensures { λ r. ⌜ r ≡ gridTime t0 dt i ⌝ }
 {
+    if i < 0x1_0000_0000 {
+        let k = i as u32;
+        return t0 + k as f64 * dt;
+    }
     t0 + std::num::nearest_u64_to_f64(i) * dt
 }
 
-fn time_of(source: Source, x: &[f64], j: usize) -> f64
-    requires { ⌜ Reaches source (now x) (j + 1) ⌝ }
-    ensures { λ r. ⌜ r ≡ timeOf source (now (x .entry)) j ⌝ }
+fn time_of(source: Source, x: &[u8], j: usize) -> f64
+    ensures { λ r. ⌜ r ≡ timeOf source (doublesOf (now (x .entry))) j ⌝ }
 {
     match source {
-        Source::Listed => x[j],
+        Source::Listed => double_at(x, j),
         Source::Even(t0, dt) => grid_time(t0, dt, j as u64),
     }
 }
 
-fn is_before(t: &[f64], x: f64) -> bool
-    requires { ⌜ 1 ≤ length (now t) ⌝ }
-    ensures { λ r. ⌜ r ≡ isBefore (now (t .entry)) x ⌝ }
+fn is_before(t: &[u8], x: f64) -> bool
+    ensures { λ r. ⌜ r ≡ isBefore (doublesOf (now (t .entry))) x ⌝ }
 {
-    x < t[0]
+    x < double_at(t, 0)
 }
 
 // k is the interval of x, here and below.
-fn is_inside(t: &[f64], x: f64, k: usize) -> bool
-    requires { ⌜ (1 ≤ length (now t)) × (k ≡ intervalOf (now t) x) ⌝ }
-    ensures { λ r. ⌜ r ≡ isInside (now (t .entry)) x ⌝ }
+fn is_inside(t: &[u8], x: f64, k: usize) -> bool
+    requires { ⌜ k ≡ intervalOf (doublesOf (now t)) x ⌝ }
+    ensures { λ r. ⌜ r ≡ isInside (doublesOf (now (t .entry))) x ⌝ }
 {
     if is_before(t, x) {
         false
     } else {
-        k < t.len() - 1
+        k + 1 < t.len() / 8
     }
 }
 
@@ -87,9 +99,9 @@ fn one_more(c: Counts, before: usize, inside: usize, past: usize) -> Counts
     }
 }
 
-fn tally(c: Counts, t: &[f64], x: f64, k: usize) -> Counts
-    requires { ⌜ (1 ≤ length (now t)) × (k ≡ intervalOf (now t) x) × Bounded c ⌝ }
-    ensures { λ r. ⌜ r ≡ tallied c (now (t .entry)) x ⌝ }
+fn tally(c: Counts, t: &[u8], x: f64, k: usize) -> Counts
+    requires { ⌜ (k ≡ intervalOf (doublesOf (now t)) x) × Bounded c ⌝ }
+    ensures { λ r. ⌜ r ≡ tallied c (doublesOf (now (t .entry))) x ⌝ }
 {
     let before = is_before(t, x);
     let inside = is_inside(t, x, k);
@@ -97,7 +109,7 @@ fn tally(c: Counts, t: &[f64], x: f64, k: usize) -> Counts
 }
 
 fn more_inside(c: Counts, m: usize) -> Counts
-    requires { ⌜ (c .written + m ≤ mostSamples) × Bounded c ⌝ }
+    requires { ⌜ (c .written + m ≤ 2 ^ 61) × Bounded c ⌝ }
     ensures { λ r. ⌜ r ≡ moreInside c m ⌝ }
 {
     Counts {
@@ -109,11 +121,12 @@ fn more_inside(c: Counts, m: usize) -> Counts
 }
 
 // The station at x, where the walk stands at x.
-fn station(s: &[f64], a: &[f64], t: &[f64], w: Cursor, x: f64) -> f64
-    requires { ⌜ (length (now t) ≡ length (now s)) × (1 ≤ length (now t)) × (w .interval ≡ intervalOf (now t) x) × Standing (now s) (now a) (now t) w ⌝ }
-    ensures { λ r. ⌜ r ≡ stationAt (now (s .entry)) (now (a .entry)) (now (t .entry)) x ⌝ }
+fn station(s: &[u8], a: &[u8], t: &[u8], w: Cursor, x: f64, inside: bool) -> f64
+    requires { ⌜ (w .interval ≡ intervalOf (doublesOf (now t)) x) × Standing (doublesOf (now s)) (doublesOf (now a)) (doublesOf (now t)) w
+        × (inside ≡ isInside (doublesOf (now t)) x) ⌝ }
+    ensures { λ r. ⌜ r ≡ stationAt (doublesOf (now (s .entry))) (doublesOf (now (a .entry))) (doublesOf (now (t .entry))) x ⌝ }
 {
-    if is_inside(t, x, w.interval) {
+    if inside {
         pair::inside(w.piece, x)
     } else {
         0.0 / 0.0
@@ -121,65 +134,138 @@ fn station(s: &[f64], a: &[f64], t: &[f64], w: Cursor, x: f64) -> f64
 }
 
 // A time that stays has the walk's interval, and need not be looked for.
-fn stays(t: &[f64], w: Cursor, x: f64) -> bool
-    requires { ⌜ w .interval + 1 < length (now t) ⌝ }
-    ensures { λ r. ⌜ r ≡ stays (now (t .entry)) w x ⌝ }
+fn stays(w: Cursor, x: f64) -> bool
+    ensures { λ r. ⌜ r ≡ stays w x ⌝ }
 {
-    if w.time <= x {
-        !(t[w.interval + 1] < x)
-    } else {
-        false
-    }
+    if w.time <= x { !(w.end < x) } else { false }
 }
 
-// The entries from `start` on, as long as their times stay, where the walk's time is inside.
-fn follow(
-    s: &[f64],
-    a: &[f64],
-    t: &[f64],
+// How far the times stay, and the last entry before the next.
+struct Stretch {
+    next: usize,
+    last: f64,
+}
+
+// A list and the output go as far as n.
+fn in_both(n: usize, list: usize, room: usize) -> bool
+    ensures { λ r. ⌜ r ≡ leb n list && leb n room ⌝ }
+{
+    if n <= list { n <= room } else { false }
+}
+
+// The entries from `start` on, as long as their times stay, where the walk's time is inside; v is the entry before them. Here the times of a list: a
+// length that is told beside the loop is not tested in it.
+fn follow_list(
+    s: &[u8],
+    a: &[u8],
+    t: &[u8],
     w: Cursor,
-    source: Source,
-    x: &[f64],
+    x: &[u8],
     start: usize,
     n: usize,
-    out: &mut [f64],
-) -> usize
-    requires { ⌜ (length (now t) ≡ length (now s)) × (1 ≤ length (now t))
-        × Standing (now s) (now a) (now t) w × (w .interval ≡ intervalOf (now t) (w .time)) × (isInside (now t) (w .time) ≡ true)
-        × (start ≤ n) × (n ≤ length (now out)) × Reaches source (now x) n
-        × (now out ≡ filled (stationOf (now s) (now a) (now t) source (now x)) start (now out)) ⌝ }
-    ensures { λ r. ⌜ Followed (now (t .entry)) (timeOf source (now (x .entry)))
-        (stationOf (now (s .entry)) (now (a .entry)) (now (t .entry)) source (now (x .entry)))
-        start n r (now (out .entry)) (now (out .exit)) ⌝ }
+    v: f64,
+    out: &mut [u8],
+) -> Stretch
+    requires { ⌜ Ready (doublesOf (now s)) (doublesOf (now a)) (doublesOf (now t)) w Listed (doublesOf (now x)) start n v (now out) ⌝ }
+    ensures { λ r. ⌜ Followed (doublesOf (now (s .entry))) (doublesOf (now (a .entry))) (doublesOf (now (t .entry))) Listed (doublesOf (now (x .entry)))
+        start n (r .next) (r .last) (now (out .entry)) (now (out .exit)) ⌝ }
 {
+    if !in_both(n, x.len() / 8, out.len() / 8) {
+        return Stretch {
+            next: start,
+            last: v,
+        };
+    }
+    let mut last = v;
     let mut j = start;
     while j < n {
-        let y = time_of(source, x, j);
-        if !stays(t, w, y) {
-            return j;
+        let y = double_at(x, j);
+        if !stays(w, y) {
+            return Stretch { next: j, last };
         }
-        out[j] = pair::inside(w.piece, y);
+        last = pair::inside(w.piece, y);
+        doubles::put(out, j, last);
         j += 1;
     }
-    j
+    Stretch { next: j, last }
+}
+
+// The same for the times of an even grid, in the limit of samples.
+fn follow_grid(
+    s: &[u8],
+    a: &[u8],
+    t: &[u8],
+    w: Cursor,
+    t0: f64,
+    dt: f64,
+    x: &[u8],
+    start: usize,
+    n: usize,
+    v: f64,
+    out: &mut [u8],
+) -> Stretch
+    requires { ⌜ Ready (doublesOf (now s)) (doublesOf (now a)) (doublesOf (now t)) w (Even t0 dt) (doublesOf (now x)) start n v (now out) ⌝ }
+    ensures { λ r. ⌜ Followed (doublesOf (now (s .entry))) (doublesOf (now (a .entry))) (doublesOf (now (t .entry))) (Even t0 dt) (doublesOf (now (x .entry)))
+        start n (r .next) (r .last) (now (out .entry)) (now (out .exit)) ⌝ }
+{
+    if !in_both(n, most::SAMPLES, out.len() / 8) {
+        return Stretch {
+            next: start,
+            last: v,
+        };
+    }
+    let mut last = v;
+    let mut j = start;
+    while j < n {
+        let y = grid_time(t0, dt, j as u64);
+        if !stays(w, y) {
+            return Stretch { next: j, last };
+        }
+        last = pair::inside(w.piece, y);
+        doubles::put(out, j, last);
+        j += 1;
+    }
+    Stretch { next: j, last }
+}
+
+// Each source has a loop of its own.
+fn follow(
+    s: &[u8],
+    a: &[u8],
+    t: &[u8],
+    w: Cursor,
+    source: Source,
+    x: &[u8],
+    start: usize,
+    n: usize,
+    v: f64,
+    out: &mut [u8],
+) -> Stretch
+    requires { ⌜ Ready (doublesOf (now s)) (doublesOf (now a)) (doublesOf (now t)) w source (doublesOf (now x)) start n v (now out) ⌝ }
+    ensures { λ r. ⌜ Followed (doublesOf (now (s .entry))) (doublesOf (now (a .entry))) (doublesOf (now (t .entry))) source (doublesOf (now (x .entry)))
+        start n (r .next) (r .last) (now (out .entry)) (now (out .exit)) ⌝ }
+{
+    match source {
+        Source::Listed => follow_list(s, a, t, w, x, start, n, v, out),
+        Source::Even(t0, dt) => follow_grid(s, a, t, w, t0, dt, x, start, n, v, out),
+    }
 }
 
 // The first n times of the source, walked in order.
 fn walked(
-    s: &[f64],
-    a: &[f64],
-    t: &[f64],
+    s: &[u8],
+    a: &[u8],
+    t: &[u8],
     source: Source,
-    x: &[f64],
+    x: &[u8],
     n: usize,
-    out: &mut [f64],
-) -> Counts
-    requires { ⌜ (length (now a) ≡ length (now s)) × (length (now t) ≡ length (now s)) × (2 ≤ length (now s))
-        × (n ≤ mostSamples) × (n ≤ length (now out)) × Reaches source (now x) n ⌝ }
-    ensures { λ r. ⌜ (r ≡ countsOf (now (t .entry)) (timeOf source (now (x .entry))) n n)
-        × (now (out .exit) ≡ filled (stationOf (now (s .entry)) (now (a .entry)) (now (t .entry)) source (now (x .entry))) n (now (out .entry))) ⌝ }
+    out: &mut [u8],
+) -> Passage
+    requires { ⌜ n ≤ length (now out) / 8 ⌝ }
+    ensures { λ r. ⌜ Passed (doublesOf (now (s .entry))) (doublesOf (now (a .entry))) (doublesOf (now (t .entry))) source (doublesOf (now (x .entry)))
+        n (now (out .entry)) r (now (out .exit)) ⌝ }
 {
-    let mut c = Counts {
+    let mut counts = Counts {
         before: 0,
         inside: 0,
         past: 0,
@@ -188,84 +274,53 @@ fn walked(
     let mut w = Cursor {
         time: 0.0,
         interval: 0,
+        end: double_at(t, 1),
         piece: interval::piece_at(s, a, t, 0),
     };
+    let mut last = 0.0 / 0.0;
     let mut j = 0;
     while j < n {
         let v = time_of(source, x, j);
         w = interval::advance(w, s, a, t, v);
         let inside = is_inside(t, v, w.interval);
-        out[j] = station(s, a, t, w, v);
+        last = station(s, a, t, w, v, inside);
+        doubles::put(out, j, last);
         if inside {
-            let next = follow(s, a, t, w, source, x, j + 1, n, out);
-            c = more_inside(c, next - j);
-            j = next;
+            let f = follow(s, a, t, w, source, x, j + 1, n, last, out);
+            counts = more_inside(counts, f.next - j);
+            last = f.last;
+            j = f.next;
         } else {
-            c = tally(c, t, v, w.interval);
+            counts = tally(counts, t, v, w.interval);
             j += 1;
         }
     }
-    c
+    Passage { counts, last }
 }
 
-// A list reaches as far as it is long, and an even grid as far as it is asked to.
-fn reaches(source: Source, list: usize, n: usize) -> bool
-    ensures { λ r. ⌜ r ≡ reaches source list n ⌝ }
+fn least(n: usize, room: usize) -> usize
+    ensures { λ r. ⌜ r ≡ min n room ⌝ }
 {
-    match source {
-        Source::Listed => n <= list,
-        Source::Even(_, _) => true,
-    }
+    if n < room { n } else { room }
 }
 
-fn in_step(stations: usize, speeds: usize, times: usize) -> bool
-    ensures { λ r. ⌜ r ≡ inStep stations speeds times ⌝ }
-{
-    if speeds == stations {
-        if times == stations {
-            return 2 <= stations;
-        }
-    }
-    false
-}
-
-fn in_room(n: usize, room: usize, reached: bool) -> bool
-    ensures { λ r. ⌜ r ≡ inRoom n room reached ⌝ }
-{
-    if n <= most::SAMPLES {
-        if n <= room {
-            return reached;
-        }
-    }
-    false
-}
-
-// The station at each of the first n times of the source, or NaN, where the call fits.
+// The station at each of the first n times of the source, or NaN, as far as the output has room.
 pub fn t_to_s_topp2_core(
-    s: &[f64],
-    a: &[f64],
-    t: &[f64],
+    s: &[u8],
+    a: &[u8],
+    t: &[u8],
     source: Source,
-    x: &[f64],
+    x: &[u8],
     n: usize,
-    out: &mut [f64],
-) -> Counts
-    ensures { λ r. ⌜ Passed (fitting (now (s .entry)) (now (a .entry)) (now (t .entry)) source (now (x .entry)) n (length (now (out .entry))))
-        (now (s .entry)) (now (a .entry)) (now (t .entry)) source (now (x .entry)) n (now (out .entry)) r (now (out .exit)) ⌝ }
+    out: &mut [u8],
+) -> Passage
+    ensures { λ r. ⌜ Passed (doublesOf (now (s .entry))) (doublesOf (now (a .entry))) (doublesOf (now (t .entry))) source (doublesOf (now (x .entry)))
+        (min n (length (now (out .entry)) / 8)) (now (out .entry)) r (now (out .exit)) ⌝ }
 {
-    if in_step(s.len(), a.len(), t.len()) {
-        if in_room(n, out.len(), reaches(source, x.len(), n)) {
-            // What is called from one place is built into its caller, and the walk then runs short of registers: hence two calls.
-            if n < most::SAMPLES {
-                return walked(s, a, t, source, x, n, out);
-            }
-            return walked(s, a, t, source, x, n, out);
-        }
+    let m = least(n, out.len() / 8);
+    // What is called from one place is built into its caller, and the walk then runs short of registers: hence two calls.
+    if m < most::SAMPLES {
+        return walked(s, a, t, source, x, m, out);
     }
-    Counts {
-        before: 0,
-        inside: 0,
-        past: 0,
-        written: 0,
-    }
+    walked(s, a, t, source, x, m, out)
 }

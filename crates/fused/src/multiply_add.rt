@@ -33,6 +33,8 @@ pub fn fma(x: f64, y: f64, z: f64) -> f64
                 return sum;
             }
         }
+        // What is called from two places is not built into its caller, and the short way then is, where it is used.
+        return in_whole_numbers(x, y, z);
     }
     in_whole_numbers(x, y, z)
 }

@@ -1,5 +1,5 @@
 -- t to s on an even grid
-use Prim.Native.Nat.{ℕ, _+_, _-_}
+use Prim.Native.Nat.{ℕ, _+_, _*_, _-_, _/_}
 use mathlib.Core.List.{List}
 use mathlib.Core.Bool.{Bool, not, cond, _&&_}
 use lib.Dec.{leb, ltb, eqb}
@@ -13,6 +13,8 @@ use Rattle.refusals.specs.Most.{mostSamples}
 use Rattle.refusals.specs.Refusals.{unless, _or_}
 use Rattle.refusals.specs.Outcome.{Outcome}
 use Rattle.following.specs.Places.{stationAt, gridTime, countsOf}
+use Rattle.following.specs.declared.pass.Counts.{Counts}
+use Rattle.byte_lists.specs.Bytes.{inEights, doublesOf, byteOf}
 use Rattle.sampling.specs.Samples.{timedNo}
 use Rattle.sampling.specs.declared.samples.Sampled.{Sampled}
 use Rattle.sampling.specs.declared.samples.Sampled.the-variants.{Done, Refused}
@@ -56,7 +58,17 @@ gridEntries s a t t0 dt final =
     let n = gridSize t t0 dt in
     n + cond (final && finalAdded s t t0 n (gridStation s a t t0 dt (n - 1))) 1 0
 
-abbrev pub Gridded : List Float → List Float → List Float → Float → Float → Bool → List Float → Sampled → List Float → Type 0
-Gridded s a t t0 dt final old =
-    Outcome (Done (countsOf t (gridTime t0 dt) (gridSize t t0 dt) (gridEntries s a t t0 dt final))) Refused (gridNo s a t t0 dt final (length old)) (gridEntry s a t t0 dt)
-    (gridEntries s a t t0 dt final) old
+abbrev pub gridCounts : List Float → List Float → List Float → Float → Float → Bool → Counts
+gridCounts s a t t0 dt final = countsOf t (gridTime t0 dt) (gridSize t t0 dt) (gridEntries s a t t0 dt final)
+
+-- ---- on byte lists: 10, then these
+abbrev pub gridByteNo : List ℕ → List ℕ → List ℕ → Float → Float → Bool → List ℕ → ℕ
+gridByteNo s a t t0 dt final out =
+    unless ((inEights s && (inEights a && inEights out)) && inEights t) 10
+    or gridNo (doublesOf s) (doublesOf a) (doublesOf t) t0 dt final (length out / 8)
+
+-- the entries, as bytes
+abbrev pub ByteGridded : List ℕ → List ℕ → List ℕ → Float → Float → Bool → List ℕ → Sampled → List ℕ → Type 0
+ByteGridded s a t t0 dt final old =
+    Outcome (Done (gridCounts (doublesOf s) (doublesOf a) (doublesOf t) t0 dt final)) Refused (gridByteNo s a t t0 dt final old)
+    (byteOf (gridEntry (doublesOf s) (doublesOf a) (doublesOf t) t0 dt)) (8 * gridEntries (doublesOf s) (doublesOf a) (doublesOf t) t0 dt final) old

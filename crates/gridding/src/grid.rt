@@ -1,6 +1,8 @@
 // t to s on an even grid, the Rust's UniformTimeGrid.
+use byte_lists::doubles;
 use following::pass;
 use following::pass::Counts;
+use following::pass::Passage;
 use following::pass::Source;
 use number::size;
 use refusals::chain::or;
@@ -10,26 +12,26 @@ use sampling::samples;
 use sampling::samples::Sampled;
 ghost use mathlib.Core.Path.{_≡_};
 ghost use mathlib.Core.Bool.{cond, not, _&&_};
-ghost use Prim.Native.Nat.{_+_, _-_, _<_, _≤_};
-ghost use lib.Dec.{leb};
+ghost use Prim.Native.Nat.{_+_, _/_, _%_, _<_, _≤_};
+ghost use lib.Dec.{leb, eqb};
 ghost use lib.ListN.{length};
 ghost use lib.Ieee.{le};
 ghost use Rattle.number.specs.Doubles.{zero};
 ghost use Rattle.refusals.specs.Most.{mostSamples};
-ghost use Rattle.loops.specs.Upto.{at};
-ghost use Rattle.gridding.specs.Grid.{lastOf, gridSize, finalAdded, evenNo, gridNo, Gridded};
+ghost use Rattle.byte_lists.specs.Bytes.{doublesOf};
+ghost use Rattle.gridding.specs.Grid.{lastOf, gridSize, finalAdded, evenNo, gridNo, ByteGridded};
 ghost use Rattle.gridding.specs.Ending.{entryMore, Ended};
 
-fn last(x: &[f64]) -> f64
-    requires { ⌜ 0 < length (now x) ⌝ }
-    ensures { λ r. ⌜ r ≡ lastOf (now (x .entry)) ⌝ }
+fn last(x: &[u8]) -> f64
+    requires { ⌜ 0 < length (now x) / 8 ⌝ }
+    ensures { λ r. ⌜ r ≡ lastOf (doublesOf (now (x .entry))) ⌝ }
 {
-    x[x.len() - 1]
+    doubles::double_at(x, x.len() / 8 - 1)
 }
 
-fn size(t: &[f64], t0: f64, dt: f64) -> u64
-    requires { ⌜ 0 < length (now t) ⌝ }
-    ensures { λ r. ⌜ r ≡ gridSize (now (t .entry)) t0 dt ⌝ }
+fn size(t: &[u8], t0: f64, dt: f64) -> u64
+    requires { ⌜ 0 < length (now t) / 8 ⌝ }
+    ensures { λ r. ⌜ r ≡ gridSize (doublesOf (now (t .entry))) t0 dt ⌝ }
 {
     size::whole_part((last(t) - t0) / dt)
 }
@@ -52,9 +54,9 @@ fn positive(dt: f64) -> bool
 }
 
 // 16, 23, 24, 28: plus infinity has a whole part over every limit.
-fn even_refusal(t: &[f64], t0: f64, dt: f64) -> u64
-    requires { ⌜ 0 < length (now t) ⌝ }
-    ensures { λ r. ⌜ r ≡ evenNo (now (t .entry)) t0 dt ⌝ }
+fn even_refusal(t: &[u8], t0: f64, dt: f64) -> u64
+    requires { ⌜ 0 < length (now t) / 8 ⌝ }
+    ensures { λ r. ⌜ r ≡ evenNo (doublesOf (now (t .entry))) t0 dt ⌝ }
 {
     let many = unless(size(t, t0, dt) <= most::SAMPLES as u64, 28);
     let still = or(unless(positive(dt), 24), many);
@@ -63,8 +65,8 @@ fn even_refusal(t: &[f64], t0: f64, dt: f64) -> u64
 }
 
 // 11 to 15, 17, 18, 20 to 22, then the grid's
-fn refusal(s: &[f64], a: &[f64], t: &[f64], t0: f64, dt: f64, end: bool, room: usize) -> u64
-    ensures { λ r. ⌜ r ≡ gridNo (now (s .entry)) (now (a .entry)) (now (t .entry)) t0 dt end room ⌝ }
+fn refusal(s: &[u8], a: &[u8], t: &[u8], t0: f64, dt: f64, end: bool, room: usize) -> u64
+    ensures { λ r. ⌜ r ≡ gridNo (doublesOf (now (s .entry))) (doublesOf (now (a .entry))) (doublesOf (now (t .entry))) t0 dt end room ⌝ }
 {
     let number = samples::refusal(s, a, t);
     if number == 0 {
@@ -75,15 +77,15 @@ fn refusal(s: &[f64], a: &[f64], t: &[f64], t0: f64, dt: f64, end: bool, room: u
     }
 }
 
-// The rule for the final station, after n samples.
-fn final_added(s: &[f64], t: &[f64], t0: f64, n: usize, out: &[f64]) -> bool
-    requires { ⌜ (0 < length (now s)) × (0 < length (now t)) × (n ≤ length (now out)) ⌝ }
-    ensures { λ r. ⌜ r ≡ finalAdded (now (s .entry)) (now (t .entry)) t0 n (at (now (out .entry)) (n - 1)) ⌝ }
+// The rule for the final station, after n samples whose last entry is given.
+fn final_added(s: &[u8], t: &[u8], t0: f64, n: usize, entry: f64) -> bool
+    requires { ⌜ (0 < length (now s) / 8) × (0 < length (now t) / 8) ⌝ }
+    ensures { λ r. ⌜ r ≡ finalAdded (doublesOf (now (s .entry))) (doublesOf (now (t .entry))) t0 n entry ⌝ }
 {
     if n == 0 {
         t0 <= last(t)
     } else {
-        out[n - 1] < last(s)
+        entry < last(s)
     }
 }
 
@@ -101,38 +103,59 @@ fn entry_more(c: Counts) -> Counts
 }
 
 // The last station after the first n entries, where it is asked for and due: an entry, but no time.
-fn finish(s: &[f64], t: &[f64], t0: f64, n: usize, end: bool, c: Counts, out: &mut [f64]) -> Counts
-    requires { ⌜ (0 < length (now s)) × (0 < length (now t)) × (n + cond end 1 0 ≤ length (now out)) × (c .written ≤ mostSamples) ⌝ }
-    ensures { λ r. ⌜ Ended (end && finalAdded (now (s .entry)) (now (t .entry)) t0 n (at (now (out .entry)) (n - 1)))
-        n (lastOf (now (s .entry))) c (now (out .entry)) r (now (out .exit)) ⌝ }
+fn finish(
+    s: &[u8],
+    t: &[u8],
+    t0: f64,
+    n: usize,
+    end: bool,
+    found: Passage,
+    out: &mut [u8],
+) -> Counts
+    requires { ⌜ (0 < length (now s) / 8) × (0 < length (now t) / 8) × (found .counts .written ≤ mostSamples) ⌝ }
+    ensures { λ r. ⌜ Ended (end && finalAdded (doublesOf (now (s .entry))) (doublesOf (now (t .entry))) t0 n (found .last))
+        n (lastOf (doublesOf (now (s .entry)))) (found .counts) (now (out .entry)) r (now (out .exit)) ⌝ }
 {
+    let c = found.counts;
     if end {
-        if final_added(s, t, t0, n, out) {
-            let v = last(s);
-            out[n] = v;
+        if final_added(s, t, t0, n, found.last) {
+            doubles::put(out, n, last(s));
             return entry_more(c);
         }
     }
     c
 }
 
+// 10 comes before all others.
+fn four_in_eights(s: usize, a: usize, t: usize, out: usize) -> bool
+    ensures { λ r. ⌜ r ≡ (eqb (s % 8) 0 && (eqb (a % 8) 0 && eqb (out % 8) 0)) && eqb (t % 8) 0 ⌝ }
+{
+    if doubles::in_eights(s, a, out) {
+        return t % 8 == 0;
+    }
+    false
+}
+
 // The station at each time of the grid, or NaN; `end` asks for the final.
 pub fn t_to_s_topp2_grid(
-    s: &[f64],
-    a: &[f64],
-    t: &[f64],
+    s: &[u8],
+    a: &[u8],
+    t: &[u8],
     t0: f64,
     dt: f64,
     end: bool,
-    out: &mut [f64],
+    out: &mut [u8],
 ) -> Sampled
-    ensures { λ r. ⌜ Gridded (now (s .entry)) (now (a .entry)) (now (t .entry)) t0 dt end (now (out .entry)) r (now (out .exit)) ⌝ }
+    ensures { λ r. ⌜ ByteGridded (now (s .entry)) (now (a .entry)) (now (t .entry)) t0 dt end (now (out .entry)) r (now (out .exit)) ⌝ }
 {
-    let number = refusal(s, a, t, t0, dt, end, out.len());
-    if number == 0 {
-        let n = size(t, t0, dt) as usize;
-        let c = pass::t_to_s_topp2_core(s, a, t, Source::Even(t0, dt), t, n, out);
-        return Sampled::Done(finish(s, t, t0, n, end, c, out));
+    if four_in_eights(s.len(), a.len(), t.len(), out.len()) {
+        let number = refusal(s, a, t, t0, dt, end, out.len() / 8);
+        if number == 0 {
+            let n = size(t, t0, dt) as usize;
+            let found = pass::t_to_s_topp2_core(s, a, t, Source::Even(t0, dt), t, n, out);
+            return Sampled::Done(finish(s, t, t0, n, end, found, out));
+        }
+        return Sampled::Refused(number);
     }
-    Sampled::Refused(number)
+    Sampled::Refused(10)
 }

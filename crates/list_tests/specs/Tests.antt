@@ -1,10 +1,7 @@
 -- What the tests of an entry, and of an entry with the next, ask.
 use mathlib.Core.Bool.{Bool, not, _&&_}
 use lib.Ieee.{Float, lt, eq}
-use lib.Ieee.Scale.{finite}
 use Rattle.number.specs.Doubles.{zero}
-use Rattle.list_tests.specs.declared.tests.Entry.{Entry}
-use Rattle.list_tests.specs.declared.tests.Entry.the-variants.{Finite, NotBelowZero}
 use Rattle.list_tests.specs.declared.tests.Pair.{Pair}
 use Rattle.list_tests.specs.declared.tests.Pair.the-variants.{Rising, NotBothZero}
 
@@ -14,10 +11,6 @@ notBelowZero x = not (lt x zero)
 
 unfoldable pub notBothZero : Float → Float → Bool
 notBothZero x y = not (eq x zero && eq y zero)
-
-abbrev pub entryTest : Entry → Float → Bool
-entryTest Finite = finite
-entryTest NotBelowZero = notBelowZero
 
 abbrev pub pairTest : Pair → Float → Float → Bool
 pairTest Rising = lt

@@ -7,11 +7,15 @@ use native.Mathlib.Nat.{not-suc-le-zero, le-of-suc-le-suc, eq-or-lt-of-le}
 use lib.Dec.{T}
 use native.Mathlib.Numerals.{add-one}
 use native.Mathlib.Omega.{arith}
-use Rattle.loops.specs.Upto.{every, count, seek, first}
+use mathlib.Core.List.{List}
+use lib.ListN.{length}
+use lib.Ieee.{Float}
+use Rattle.loops.specs.Upto.{every, count, seek, first, at}
+use Rattle.loops.specs.Entries.{everyEntry}
 
 -- ---- every
 
-and-false : (b : Bool) → b && false ≡ false
+pub and-false : (b : Bool) → b && false ≡ false
 and-false true = refl
 and-false false = refl
 
@@ -33,6 +37,10 @@ pub every-more : (p : ℕ → Bool) (i : ℕ) → every p i ≡ true → p i ≡
 unfolding every
 every-more p i h k = rw (add-one, h, k)
 
+pub every-next : (p : ℕ → Bool) (i : ℕ) → every p (i + 1) ≡ every p i && p i
+unfolding every
+every-next p i = rw add-one
+
 pub every-fails : (p : ℕ → Bool) (i n : ℕ) → i < n → p i ≡ false → every p n ≡ false
 unfolding every
 every-fails p i zero h k = absurd (not-suc-le-zero h)
@@ -42,6 +50,10 @@ every-fails p i (suc n) h k =
 pub every-none : (p : ℕ → Bool) → every p 0 ≡ true
 unfolding every
 every-none p = refl
+
+pub entry-at : (p : Float → Bool) (x : List Float) (k : ℕ) → everyEntry p x ≡ true → k < length x → p (at x k) ≡ true
+unfolding everyEntry
+entry-at p x k h l = every-at (λ i. p (at x i)) k (length x) h l
 
 -- ---- count
 

@@ -11,10 +11,9 @@ use Rattle.refusals.specs.Refusals.{onlyIf}
 use Rattle.refusals.specs.Outcome.{answered}
 use Rattle.following.specs.declared.pass.Counts.{Counts}
 use Rattle.sampling.specs.declared.samples.Sampled.the-variants.{Done, Refused}
-use Rattle.gridding.specs.Grid.{gridEntry, gridEntries}
+use Rattle.gridding.specs.Grid.{gridEntry, gridEntries, gridCounts, gridByteNo}
 use Rattle.byte_lists.specs.Bytes.{doublesOf, byteOf}
-use Rattle.byte_samples.specs.ByteSamples.{listCounts, listStation, listByteNo}
-use Rattle.byte_grids.specs.ByteGrids.{gridCounts, gridByteNo}
+use Rattle.sampling.specs.List.{listCounts, listStation, listByteNo}
 use Rattle.replies.specs.CountsTold.{Counted}
 
 -- what a call leaves: its number and counts, and the bytes of the first n entries at the front of the output

@@ -1,12 +1,13 @@
 // Stations, speeds and times on byte lists. Each returns 0, or the refusal number; a refusal writes nothing.
-use byte_grids::grid::t_to_s_grid;
-use byte_samples::list::t_to_s_list;
-use conversions::slopes::a_to_b;
-use conversions::times::s_to_t;
+use gridding::grid::t_to_s_topp2_grid;
 use patterns::pattern::double_of;
 use replies::samples::tell;
+use sampling::list::t_to_s_topp2_list;
+use sloping::slopes::a_to_b_topp2;
+use timing::times::s_to_t_topp2;
 ghost use lib.Ieee.{binary64, ofBits};
-ghost use Rattle.conversions.specs.Replies.{ByteSlopes, ByteTimes};
+ghost use Rattle.sloping.specs.Slopes.{ByteSlopes};
+ghost use Rattle.timing.specs.Times.{ByteTimes};
 ghost use Rattle.malikoza.specs.Stations.{ListTallied, GridTallied, yes};
 
 // One entry fewer than stations.
@@ -14,7 +15,7 @@ ghost use Rattle.malikoza.specs.Stations.{ListTallied, GridTallied, yes}
 pub extern "C" fn malikoza_a_to_b(s: &[u8], a: &[u8], out: &mut [u8]) -> u64
     ensures { λ r. ⌜ ByteSlopes (now (s .entry)) (now (a .entry)) (now (out .entry)) r (now (out .exit)) ⌝ }
 {
-    a_to_b(s, a, out)
+    a_to_b_topp2(s, a, out)
 }
 
 // One entry for each station.
@@ -22,7 +23,7 @@ pub extern "C" fn malikoza_a_to_b(s: &[u8], a: &[u8], out: &mut [u8]) -> u64
 pub extern "C" fn malikoza_s_to_t(s: &[u8], a: &[u8], t0: u64, out: &mut [u8]) -> u64
     ensures { λ r. ⌜ ByteTimes (now (s .entry)) (now (a .entry)) (ofBits binary64 t0) (now (out .entry)) r (now (out .exit)) ⌝ }
 {
-    s_to_t(s, a, double_of(t0), out)
+    s_to_t_topp2(s, a, double_of(t0), out)
 }
 
 // One entry for each sample.
@@ -45,7 +46,7 @@ pub extern "C" fn malikoza_t_to_s_list(
         (now (written .entry)) (now (written .exit))
         (now (out .exit)) ⌝ }
 {
-    let found = t_to_s_list(s, a, t, x, out);
+    let found = t_to_s_topp2_list(s, a, t, x, out);
     tell(found, before, inside, past, written)
 }
 
@@ -72,6 +73,6 @@ pub extern "C" fn malikoza_t_to_s_grid(
         (now (written .entry)) (now (written .exit))
         (now (out .exit)) ⌝ }
 {
-    let found = t_to_s_grid(s, a, t, double_of(t0), double_of(dt), with_final != 0, out);
+    let found = t_to_s_topp2_grid(s, a, t, double_of(t0), double_of(dt), with_final != 0, out);
     tell(found, before, inside, past, written)
 }

@@ -206,7 +206,7 @@ halves c n C h = go (leb c n) (leb→le c n) (nleb→lt c n)
     go true l g = let c≤n = l tt in let r : n - c < c = omega arith in let e : n % c ≡ n - c = mod-eq-sub-mod c≤n ∙ mod-eq-of-lt r in omega arith
     go false l g = sym (zero-add (n % c) ∙ mod-eq-of-lt (g tt))
 
-number-bits : (f : Format) (n : ℕ) → T (finite (ofBits f n)) → n % top f ≤ ones f * hid f
+pub number-bits : (f : Format) (n : ℕ) → T (finite (ofBits f n)) → n % top f ≤ ones f * hid f
 number-bits f n h =
     nltb→le (ones f * hid f) (n % top f) (subst (λ (t : Bool). T (not t)) (sym (nanBits-is f n) ∙ nanBits-above f n) (not-nan (ofBits f n) (finite-number (ofBits f n) h)))
 

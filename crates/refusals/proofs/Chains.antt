@@ -1,6 +1,6 @@
 -- What a chain of refusals says: where it gives 0, each test in it passed.
 use mathlib.Core.Path.{_≡_, refl}
-use mathlib.Core.Bool.{Bool, true, false}
+use mathlib.Core.Bool.{Bool, true, false, cond}
 use Prim.Native.Nat.{ℕ, zero, suc}
 use native.Mathlib.Nat.{suc-ne-zero}
 use Rattle.refusals.specs.Refusals.{unless, _or_, onlyIf}
@@ -34,3 +34,9 @@ tested n e t = rw (e, t)
 
 pub chained : {r first later rest : ℕ} {b p : Bool} (n : ℕ) → r ≡ first or later → first ≡ unless b n → b ≡ p → later ≡ rest → r ≡ unless p n or rest
 chained n e f t l = rw (e, f, t, l)
+
+-- a test whose number stands for all later ones
+pub or-cond : (p : Bool) (n later : ℕ) → (n ≡ 0 → ⊥) → cond p later n ≡ unless p n or later
+or-cond true n later h = refl
+or-cond false zero later h = absurd (h refl)
+or-cond false (suc n) later h = refl

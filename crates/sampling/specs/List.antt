@@ -1,5 +1,6 @@
 -- t to s for a sample list
-use Prim.Native.Nat.{ℕ}
+use Prim.Native.Nat.{ℕ, _*_, _/_}
+use mathlib.Core.Bool.{_&&_}
 use mathlib.Core.List.{List}
 use lib.Dec.{leb, ltb}
 use lib.ListN.{length}
@@ -11,6 +12,8 @@ use Rattle.refusals.specs.Refusals.{unless, _or_}
 use Rattle.refusals.specs.Outcome.{Outcome}
 use Rattle.loops.specs.Entries.{everyEntry, everyPair}
 use Rattle.following.specs.Places.{stationAt, countsOf}
+use Rattle.following.specs.declared.pass.Counts.{Counts}
+use Rattle.byte_lists.specs.Bytes.{inEights, doublesOf, byteOf}
 use Rattle.sampling.specs.Samples.{timedNo}
 use Rattle.sampling.specs.declared.samples.Sampled.{Sampled}
 use Rattle.sampling.specs.declared.samples.Sampled.the-variants.{Done, Refused}
@@ -28,6 +31,21 @@ samplesNo x room =
 unfoldable pub listNo : List Float → List Float → List Float → List Float → ℕ → ℕ
 listNo s a t x room = timedNo s a t or samplesNo x room
 
-abbrev pub Listed : List Float → List Float → List Float → List Float → List Float → Sampled → List Float → Type 0
-Listed s a t x old =
-    Outcome (Done (countsOf t (at x) (length x) (length x))) Refused (listNo s a t x (length old)) (λ j. stationAt s a t (at x j)) (length x) old
+-- ---- what a list is answered: its counts, and the station at each sample
+abbrev pub listCounts : List Float → List Float → Counts
+listCounts t x = countsOf t (at x) (length x) (length x)
+
+abbrev pub listStation : List Float → List Float → List Float → List Float → ℕ → Float
+listStation s a t x j = stationAt s a t (at x j)
+
+-- ---- on byte lists: 10, then these
+abbrev pub listByteNo : List ℕ → List ℕ → List ℕ → List ℕ → List ℕ → ℕ
+listByteNo s a t x out =
+    unless ((inEights s && (inEights a && inEights out)) && (inEights t && (inEights x && inEights out))) 10
+    or listNo (doublesOf s) (doublesOf a) (doublesOf t) (doublesOf x) (length out / 8)
+
+-- one entry for each sample
+abbrev pub ByteListed : List ℕ → List ℕ → List ℕ → List ℕ → List ℕ → Sampled → List ℕ → Type 0
+ByteListed s a t x old =
+    Outcome (Done (listCounts (doublesOf t) (doublesOf x))) Refused (listByteNo s a t x old) (byteOf (listStation (doublesOf s) (doublesOf a) (doublesOf t) (doublesOf x)))
+    (8 * length (doublesOf x)) old

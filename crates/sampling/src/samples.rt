@@ -2,7 +2,6 @@
 use following::pass::Counts;
 use list_tests::tests;
 use profile::checks;
-use refusals::chain::or;
 ghost use mathlib.Core.Path.{_≡_};
 ghost use lib.Dec.{eqb};
 ghost use lib.ListN.{length};
@@ -10,6 +9,7 @@ ghost use lib.Ieee.{lt};
 ghost use lib.Ieee.Scale.{finite};
 ghost use Rattle.loops.specs.Entries.{everyEntry, everyPair};
 ghost use Rattle.refusals.specs.Refusals.{unless, _or_};
+ghost use Rattle.byte_lists.specs.Bytes.{doublesOf};
 ghost use Rattle.sampling.specs.Samples.{timedNo};
 
 pub enum Sampled {
@@ -18,10 +18,12 @@ pub enum Sampled {
 }
 
 // 20 to 22, for n stations
-fn times_refusal(n: usize, t: &[f64]) -> u64
-    ensures { λ r. ⌜ r ≡ unless (eqb (length (now (t .entry))) n) 20 or unless (everyEntry finite (now (t .entry))) 21 or unless (everyPair lt (now (t .entry))) 22 ⌝ }
+fn times_refusal(n: usize, t: &[u8]) -> u64
+    ensures { λ r. ⌜ r ≡ unless (eqb (length (doublesOf (now (t .entry)))) n) 20
+        or unless (everyEntry finite (doublesOf (now (t .entry)))) 21
+        or unless (everyPair lt (doublesOf (now (t .entry)))) 22 ⌝ }
 {
-    if t.len() == n {
+    if t.len() / 8 == n {
         tests::check_rising(t, 21, 22)
     } else {
         20
@@ -29,15 +31,12 @@ fn times_refusal(n: usize, t: &[f64]) -> u64
 }
 
 // What both modes refuse: 11 to 15, 17, 18, 20 to 22.
-pub fn refusal(s: &[f64], a: &[f64], t: &[f64]) -> u64
-    ensures { λ r. ⌜ r ≡ timedNo (now (s .entry)) (now (a .entry)) (now (t .entry)) ⌝ }
+pub fn refusal(s: &[u8], a: &[u8], t: &[u8]) -> u64
+    ensures { λ r. ⌜ r ≡ timedNo (doublesOf (now (s .entry))) (doublesOf (now (a .entry))) (doublesOf (now (t .entry))) ⌝ }
 {
-    let number = checks::check_topp2_sa(s, a);
+    let number = checks::check_topp2_timed(s, a, true);
     if number == 0 {
-        or(
-            checks::check_topp2_time_denominator(a),
-            times_refusal(s.len(), t),
-        )
+        times_refusal(s.len() / 8, t)
     } else {
         number
     }

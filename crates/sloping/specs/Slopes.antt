@@ -1,5 +1,6 @@
 -- a to b
-use Prim.Native.Nat.{ℕ, _+_, _-_}
+use Prim.Native.Nat.{ℕ, _+_, _-_, _/_}
+use mathlib.Core.Bool.{_&&_}
 use mathlib.Core.List.{List}
 use lib.Dec.{leb}
 use lib.ListN.{length}
@@ -7,10 +8,9 @@ use lib.Ieee.{Float}
 use Rattle.number.specs.Doubles.{half, _⊖_, _⊗_, _⊘_}
 use Rattle.loops.specs.Upto.{at}
 use Rattle.refusals.specs.Refusals.{unless, _or_}
-use Rattle.refusals.specs.Outcome.{Outcome}
 use Rattle.profile.specs.Profile.{profileNo}
-use Rattle.sloping.specs.declared.slopes.Sloped.{Sloped}
-use Rattle.sloping.specs.declared.slopes.Sloped.the-variants.{Done, Refused}
+use Rattle.byte_lists.specs.Bytes.{inEights, doublesOf}
+use Rattle.byte_lists.specs.Replied.{Replied}
 
 -- 0.5·(a1 - a0)/(s1 - s0) of the pair at k
 unfoldable pub slope : List Float → List Float → ℕ → Float
@@ -20,5 +20,10 @@ slope s a k = half ⊗ (at a (k + 1) ⊖ at a k) ⊘ (at s (k + 1) ⊖ at s k)
 unfoldable pub slopesNo : List Float → List Float → ℕ → ℕ
 slopesNo s a room = profileNo s a or unless (leb (length s - 1) room) 29
 
-abbrev pub Slopes : List Float → List Float → List Float → Sloped → List Float → Type 0
-Slopes s a old = Outcome Done Refused (slopesNo s a (length old)) (slope s a) (length s - 1) old
+-- ---- on byte lists: 10, then these
+abbrev pub slopesByteNo : List ℕ → List ℕ → List ℕ → ℕ
+slopesByteNo s a out = unless (inEights s && (inEights a && inEights out)) 10 or slopesNo (doublesOf s) (doublesOf a) (length out / 8)
+
+-- one entry fewer than stations
+abbrev pub ByteSlopes : List ℕ → List ℕ → List ℕ → ℕ → List ℕ → Type 0
+ByteSlopes s a old = Replied (slopesByteNo s a old) (slope (doublesOf s) (doublesOf a)) (length (doublesOf s) - 1) old

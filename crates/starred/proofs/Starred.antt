@@ -14,7 +14,7 @@ use Rattle.search.specs.Search.{neighbours, tryNeighbours, searched}
 use Rattle.search.specs.Cap.{afterCap, withCap}
 use Rattle.topp2_ra.specs.Recovery.{tolerance, tolerancesGood, noneNan, inputsGood, previousGood, currentGood, requestNo, recovered}
 use Rattle.rows.specs.Row.{numbersFinite, allWithin, admits, unfit, unmeetable, rowsNo}
-use Rattle.loops.specs.Upto.{every, count, seek, first, table, filled}
+use Rattle.loops.specs.Upto.{every, count, seek, first, table}
 use Rattle.loops.specs.Entries.{everyEntry, everyPair}
 use Rattle.list_tests.specs.Tests.{notBelowZero, notBothZero}
 use Rattle.profile.specs.Profile.{lengthsNo, entriesNo, profileNo, speedNo}
@@ -36,7 +36,7 @@ unfolding round add sub mul div lt le eq isNan ofBits toBits negative countsBelo
     rootIn isqrt stickRoot rootNearest sqrtOf hypotOf infPlus fmaOf approxOrder insidePrevious numbersFinite allWithin admits between passes
     worseNormalized worseRaw certificate reach incline cutBy narrowed unreachable flatBy flat neighbours tryNeighbours searched wholeRows
     tolerance tolerancesGood noneNan inputsGood previousGood currentGood unfit unmeetable rowsNo requestNo afterCap withCap recovered every
-    count seek first table filled everyEntry everyPair notBelowZero notBothZero lengthsNo entriesNo profileNo speedNo slope slopesNo leg legTime timeAt
+    count seek first table everyEntry everyPair notBelowZero notBothZero lengthsNo entriesNo profileNo speedNo slope slopesNo leg legTime timeAt
     timesFinite startNo timesNo intervalOf pieceOf inverse2order stationInside pieceAt stationIn isBefore isInside isPast stationAt countsOf timedNo samplesNo listNo
     lastOf gridSize gridTime finalAdded evenNo gridNo gridStation gridEntry gridEntries ofInt toUnsigned
 starred-hold =
@@ -45,8 +45,8 @@ starred-hold =
     -- recovery
     also refl also refl also refl also refl
     -- times, slopes, samples, grid
-    also record { answer = refl; left = refl }
-    also record { answer = refl; left = refl }
-    also record { answer = refl; left = refl }
-    also record { answer = refl; left = refl }
+    also record { accepted = refl; entries = refl }
+    also record { accepted = refl; entries = refl }
+    also (refl, record { accepted = refl; entries = refl })
+    also (refl, record { accepted = refl; entries = refl })
     also tt

@@ -2,7 +2,8 @@
 use mathlib.Core.Path.{_≡_}
 use mathlib.Core.Bool.{true}
 use mathlib.Core.List.{List, [], _∷_}
-use Prim.Native.Nat.{ℕ}
+use Prim.Native.Nat.{ℕ, _-_}
+use lib.ListN.{length as count}
 use lib.Ieee.{Float, binary64, ofBits, toBits}
 use Rattle.roots.specs.Root.{sqrtOf}
 use Rattle.roots.specs.Hypot.{hypotOf}
@@ -11,15 +12,12 @@ use Rattle.topp2_ra.specs.Recovery.{recovered}
 use Rattle.limits.specs.declared.request.Request.{Request}
 use Rattle.search.specs.declared.answer.Answer.{Answer}
 use Rattle.search.specs.declared.answer.Answer.the-variants.{Certified, Refused}
-use Rattle.sloping.specs.Slopes.{Slopes}
-use Rattle.timing.specs.Times.{Times}
-use Rattle.sampling.specs.List.{Listed}
-use Rattle.gridding.specs.Grid.{Gridded}
-use Rattle.timing.specs.declared.times.Timed.{Timed}
-use Rattle.timing.specs.declared.times.Timed.the-variants.{Done as Timed·Done}
-use Rattle.sloping.specs.declared.slopes.Sloped.the-variants.{Done as Sloped·Done}
+use Rattle.loops.specs.Upto.{table}
+use Rattle.sloping.specs.Slopes.{slope, slopesNo}
+use Rattle.timing.specs.Times.{timeAt, timesNo}
 use Rattle.following.specs.declared.pass.Counts.{Counts}
-use Rattle.sampling.specs.declared.samples.Sampled.the-variants.{Done as Sampled·Done}
+use Rattle.sampling.specs.List.{listNo, listCounts, listStation}
+use Rattle.gridding.specs.Grid.{gridNo, gridEntry, gridEntries, gridCounts}
 
 -- what is asked, and what the answer is
 pub data Case : Type 0 where
@@ -27,8 +25,8 @@ pub data Case : Type 0 where
   length : ℕ → ℕ → ℕ → Case
   fusion : ℕ → ℕ → ℕ → ℕ → Case
   recovery : ℕ → List ℕ → Answer → Case
-  -- stations, squared speeds, (times,) what is asked; the answer, and the output, which held zeros
-  times : List ℕ → List ℕ → ℕ → Timed → List ℕ → Case
+  -- stations, squared speeds, (times,) what is asked; the counts, and what is written
+  times : List ℕ → List ℕ → ℕ → List ℕ → Case
   slopes : List ℕ → List ℕ → List ℕ → Case
   samples : List ℕ → List ℕ → List ℕ → List ℕ → Counts → List ℕ → Case
   grid : List ℕ → List ℕ → List ℕ → ℕ → ℕ → Counts → List ℕ → Case
@@ -39,10 +37,6 @@ double n = ofBits binary64 n
 abbrev doubles : List ℕ → List Float
 doubles [] = []
 doubles (n ∷ ns) = double n ∷ doubles ns
-
-abbrev zeros : List ℕ → List Float
-zeros [] = []
-zeros (n ∷ ns) = double 0 ∷ zeros ns
 
 abbrev counts : ℕ → ℕ → ℕ → ℕ → Counts
 counts b i p w = record { before = b; inside = i; past = p; written = w }
@@ -56,15 +50,26 @@ usual tol = record {
   tolerances = record { feas = tol; abs = double 0; rel = double 0 };
 }
 
+-- a call that is not refused writes these n entries
+pub record Writes (number : ℕ) (entry : ℕ → Float) (n : ℕ) (out : List ℕ) : Type 0 where
+  pub accepted : number ≡ 0
+  pub entries : table entry n ≡ doubles out
+
+-- each conversion is given as much room as its answer takes
 abbrev pub Holds : Case → Type 0
 Holds (root x r) = toBits binary64 (sqrtOf binary64 (double x)) ≡ r
 Holds (length x y r) = toBits binary64 (hypotOf binary64 (double x) (double y)) ≡ r
 Holds (fusion x y z r) = toBits binary64 (fmaOf binary64 (double x) (double y) (double z)) ≡ r
 Holds (recovery tol rows a) = recovered (usual (double tol)) (doubles rows) ≡ a
-Holds (times s a t0 r out) = Times (doubles s) (doubles a) (double t0) (zeros out) r (doubles out)
-Holds (slopes s a out) = Slopes (doubles s) (doubles a) (zeros out) Sloped·Done (doubles out)
-Holds (samples s a t x c out) = Listed (doubles s) (doubles a) (doubles t) (doubles x) (zeros out) (Sampled·Done c) (doubles out)
-Holds (grid s a t t0 dt c out) = Gridded (doubles s) (doubles a) (doubles t) (double t0) (double dt) true (zeros out) (Sampled·Done c) (doubles out)
+Holds (times s a t0 out) = Writes (timesNo (doubles s) (doubles a) (double t0) (count out)) (timeAt (doubles s) (doubles a) (double t0)) (count s) out
+Holds (slopes s a out) = Writes (slopesNo (doubles s) (doubles a) (count out)) (slope (doubles s) (doubles a)) (count s - 1) out
+Holds (samples s a t x c out) =
+    (listCounts (doubles t) (doubles x) ≡ c)
+    × Writes (listNo (doubles s) (doubles a) (doubles t) (doubles x) (count out)) (listStation (doubles s) (doubles a) (doubles t) (doubles x)) (count x) out
+Holds (grid s a t t0 dt c out) =
+    (gridCounts (doubles s) (doubles a) (doubles t) (double t0) (double dt) true ≡ c)
+    × Writes (gridNo (doubles s) (doubles a) (doubles t) (double t0) (double dt) true (count out)) (gridEntry (doubles s) (doubles a) (doubles t) (double t0) (double dt))
+    (gridEntries (doubles s) (doubles a) (doubles t) (double t0) (double dt) true) out
 
 abbrev pub AllHold : List Case → Type 0
 AllHold [] = Unit
@@ -106,7 +111,7 @@ starred =
     -- row (0, 0, -1): 6
     ∷ recovery 0 (0 ∷ 0 ∷ 0xbff0_0000_0000_0000 ∷ []) (Refused 6)
     -- s 0, 1, 3; a 0, 4, 4; t0 10: times 10, 11, 12; b 2, 0
-    ∷ times knots squares ten (Timed·Done (double twelve)) stamps
+    ∷ times knots squares ten stamps
     ∷ slopes knots squares (0x4000_0000_0000_0000 ∷ 0 ∷ [])
     -- samples 9, 10, 10.5, 11, 11.5, 12, 12.5: NaN, 0, 0.25, 1, 2, 3, NaN; before 1, inside 5, past 1
     ∷ samples knots squares stamps (0x4022_0000_0000_0000 ∷ ten ∷ 0x4025_0000_0000_0000 ∷ 0x4026_0000_0000_0000 ∷ 0x4027_0000_0000_0000 ∷ twelve ∷ 0x4029_0000_0000_0000 ∷ [])

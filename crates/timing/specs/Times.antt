@@ -1,7 +1,8 @@
 -- s to t
-use Prim.Native.Nat.{ℕ, zero, suc, _+_, _-_}
+use Prim.Native.Nat.{ℕ, zero, suc, _+_, _/_, _≤_}
+use mathlib.Core.Path.{_≡_}
 use mathlib.Core.List.{List}
-use mathlib.Core.Bool.{Bool}
+use mathlib.Core.Bool.{Bool, true, _&&_}
 use lib.Dec.{leb}
 use lib.ListN.{length}
 use lib.Ieee.{Float, binary64}
@@ -9,11 +10,11 @@ use lib.Ieee.Scale.{finite}
 use Rattle.number.specs.Doubles.{two, _⊕_, _⊖_, _⊗_, _⊘_}
 use Rattle.roots.specs.Root.{sqrtOf}
 use Rattle.loops.specs.Upto.{every, at}
+use Rattle.loops.specs.Entries.{everyEntry}
 use Rattle.refusals.specs.Refusals.{unless, _or_}
-use Rattle.refusals.specs.Outcome.{Outcome}
 use Rattle.profile.specs.Profile.{profileNo, speedNo}
-use Rattle.timing.specs.declared.times.Timed.{Timed}
-use Rattle.timing.specs.declared.times.Timed.the-variants.{Done, Refused}
+use Rattle.byte_lists.specs.Bytes.{inEights, doublesOf}
+use Rattle.byte_lists.specs.Replied.{Replied}
 
 -- 2·(s1 - s0)/(root a0 + root a1), the roots given
 unfoldable pub leg : Float → Float → Float → Float → Float
@@ -40,9 +41,24 @@ startNo s a t0 room = profileNo s a or unless (finite t0) 16 or speedNo a or unl
 unfoldable pub timesNo : List Float → List Float → Float → ℕ → ℕ
 timesNo s a t0 room = startNo s a t0 room or unless (timesFinite s a t0) 19
 
--- under a refusal number; the answer's value is the last time
-abbrev pub Timing : List Float → List Float → Float → ℕ → List Float → Timed → List Float → Type 0
-Timing s a t0 number old = Outcome (Done (timeAt s a t0 (length s - 1))) Refused number (timeAt s a t0) (length s) old
+-- ---- on byte lists: 10, then these
+abbrev pub timesByteNo : List ℕ → List ℕ → Float → List ℕ → ℕ
+timesByteNo s a t0 out = unless (inEights s && (inEights a && inEights out)) 10 or timesNo (doublesOf s) (doublesOf a) t0 (length out / 8)
 
-abbrev pub Times : List Float → List Float → Float → List Float → Timed → List Float → Type 0
-Times s a t0 old = Timing s a t0 (timesNo s a t0 (length old)) old
+-- one entry for each station
+abbrev pub ByteTimes : List ℕ → List ℕ → Float → List ℕ → ℕ → List ℕ → Type 0
+ByteTimes s a t0 old = Replied (timesByteNo s a t0 old) (timeAt (doublesOf s) (doublesOf a) t0) (length (doublesOf s)) old
+
+-- ---- cited by inner functions alone
+-- lists that passed their checks, and an output with room
+pub record Checked (s a out : List ℕ) : Type 0 where
+  pub some : 1 ≤ length s / 8
+  pub room : length s / 8 ≤ length out / 8
+  pub same : length a / 8 ≡ length s / 8
+  pub stations : everyEntry finite (doublesOf s) ≡ true
+  pub speeds : everyEntry finite (doublesOf a) ≡ true
+
+-- what is left to refuse: 19
+abbrev pub Settled : List ℕ → List ℕ → Float → List ℕ → ℕ → List ℕ → Type 0
+Settled s a t0 old =
+    Replied (unless (timesFinite (doublesOf s) (doublesOf a) t0) 19) (timeAt (doublesOf s) (doublesOf a) t0) (length (doublesOf s)) old

@@ -1,16 +1,16 @@
--- `following::pass::is_before` meets its contract. Assumes nothing.
-use mathlib.Core.Path.{refl}
-use borrow.Author.Needs.{needs}
+use mathlib.Core.Path.{ap}
+use lib.Ieee.{Float, lt}
 use Rattle.following.specs.Places.{isBefore}
+use borrow.Author.Needs.{needs}
 use Rattle.following.proofs.pass.is_before.Statement.{statement}
 use Rattle.following.proofs.pass.is_before.Tie as tie
 
-shared-slice-read-result : tie.Need-shared-slice-read-result
-shared-slice-read-result c = search needs
+double-at-requires : tie.Need-double-at-requires
+double-at-requires c κs = search needs
 
 returns : tie.Need-returns
 unfolding isBefore
-returns c = refl
+returns c = ap (λ (y : Float). lt (c .before .before .args .x) y) (c .double-at .ensures)
 
 pub is-before-spec : {M : Type 1} → statement M
-is-before-spec = tie.close (tie.spec shared-slice-read-result returns)
+is-before-spec = tie.close (tie.spec double-at-requires returns)

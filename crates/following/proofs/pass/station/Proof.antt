@@ -1,4 +1,3 @@
--- `following::pass::station` meets its contract. Assumes nothing.
 use mathlib.Core.Path.{sym, _∙_}
 use borrow.Author.Needs.{needs}
 use lib.Ieee.{ofBits, div}
@@ -7,20 +6,17 @@ use Rattle.following.proofs.Walks.{station-held}
 use Rattle.following.proofs.pass.station.Statement.{statement}
 use Rattle.following.proofs.pass.station.Tie as tie
 
-is-inside-requires : tie.Need-is-inside-requires
-is-inside-requires c κs = search needs
-
 inside-requires : tie.Need-inside-requires
 inside-requires c κs = search needs
 
 returns : tie.Need-returns
 returns c =
-    let p = c .before .before .before .before .before .before .pre in
-    c .inside .ensures ∙ station-held _ _ _ _ _ (p .0) (p .2) (p .3) (sym (c .before .before .is-inside .ensures) ∙ c .before .if1 .taken)
+    let p = c .before .before .before .before .before .pre in
+    c .inside .ensures ∙ station-held _ _ _ _ _ (p .0) (p .1) (sym (p .2) ∙ c .before .if1 .taken)
 
 returns-2 : tie.Need-returns-2
 unfolding stationAt ofBits div
-returns-2 c = rw (sym (c .before .is-inside .ensures) ∙ c .if1 .left)
+returns-2 c = rw (sym (c .before .before .before .before .pre .2) ∙ c .if1 .left)
 
 pub station-spec : {M : Type 1} → statement M
-station-spec = tie.close (tie.spec is-inside-requires inside-requires returns returns-2)
+station-spec = tie.close (tie.spec inside-requires returns returns-2)

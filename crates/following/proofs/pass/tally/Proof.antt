@@ -27,7 +27,7 @@ one-more-requires : tie.Need-one-more-requires
 one-more-requires c κs =
     let i = c .before .before in
     let b = i .before in
-    (b .one .ensures .1, i .one2 .ensures .1, c .one3 .ensures .1, b .before .before .before .before .pre .2)
+    (b .one .ensures .1, i .one2 .ensures .1, c .one3 .ensures .1, b .before .before .before .before .pre .1)
 
 returns : tie.Need-returns
 unfolding tallied isPast

@@ -1,4 +1,3 @@
--- `following::pass::time_of` meets its contract. Assumes nothing.
 use borrow.Author.Needs.{needs}
 use Rattle.following.proofs.pass.time_of.Statement.{statement}
 use Rattle.following.proofs.pass.time_of.Tie as tie
@@ -6,15 +5,8 @@ use Rattle.following.proofs.pass.time_of.Tie as tie
 enum-told : tie.Need-enum-told
 enum-told c = search needs
 
-mul-result : tie.Need-mul-result
-mul-result c =
-    let l = rw (c .enum-told .given .1) at (c .before .before .before .pre) in
-    search (needs, l)
-
-shared-slice-read-result : tie.Need-shared-slice-read-result
-shared-slice-read-result c =
-    let l = rw (c .before .enum-told .given .1) at (c .before .before .before .before .pre) in
-    search (needs, l)
+double-at-requires : tie.Need-double-at-requires
+double-at-requires c κs = search needs
 
 enum-known-source : tie.Need-enum-known-source
 enum-known-source c = search needs
@@ -23,7 +15,7 @@ grid-time-requires : tie.Need-grid-time-requires
 grid-time-requires c κs = search needs
 
 returns : tie.Need-returns
-returns c = rw (c .before .enum-told .given .1)
+returns c = rw (c .before .enum-told .given .1) (c .double-at .ensures)
 
 returns-2 : tie.Need-returns-2
 returns-2 c = rw (c .before .before .source .given .1) (c .grid-time .ensures)
@@ -31,11 +23,4 @@ returns-2 c = rw (c .before .before .source .given .1) (c .grid-time .ensures)
 pub time-of-spec : {M : Type 1} → statement M
 time-of-spec =
     tie.close
-    (tie.spec
-    enum-told
-    mul-result
-    shared-slice-read-result
-    enum-known-source
-    grid-time-requires
-    returns
-    returns-2)
+    (tie.spec enum-told double-at-requires enum-known-source grid-time-requires returns returns-2)

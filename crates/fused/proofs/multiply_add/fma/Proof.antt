@@ -32,7 +32,21 @@ in-whole-numbers-requires : tie.Need-in-whole-numbers-requires
 in-whole-numbers-requires c κs = search needs
 
 returns-2 : tie.Need-returns-2
-returns-2 c = fused (c .before .before) _ (c .in-whole-numbers .ensures)
+returns-2 c = fused (c .before .before .before) _ (c .in-whole-numbers .ensures)
+
+in-whole-numbers-requires-2 : tie.Need-in-whole-numbers-requires-2
+in-whole-numbers-requires-2 c κs = search needs
+
+returns-3 : tie.Need-returns-3
+returns-3 c = fused (c .before .before) _ (c .in-whole-numbers2 .ensures)
 
 pub fma-spec : {M : Type 1} → statement M
-fma-spec = tie.close (tie.spec between-requires returns in-whole-numbers-requires returns-2)
+fma-spec =
+    tie.close
+    (tie.spec
+    between-requires
+    returns
+    in-whole-numbers-requires
+    returns-2
+    in-whole-numbers-requires-2
+    returns-3)

@@ -1,8 +1,6 @@
--- `gridding::grid::finish` meets its contract. Assumes nothing.
-use mathlib.Core.Path.{sym, _∙_}
-use native.Mathlib.Omega.{arith}
+use mathlib.Core.Path.{sym, ap, _∙_}
+use Rattle.byte_lists.specs.Bytes.{doublePut}
 use borrow.Author.Needs.{needs}
-use Rattle.loops.specs.Upto.{at}
 use Rattle.gridding.proofs.grid.finish.Statement.{statement}
 use Rattle.gridding.proofs.grid.finish.Tie as tie
 
@@ -12,11 +10,8 @@ final-added-requires c κs = search needs
 last-requires : tie.Need-last-requires
 last-requires c κs = search needs
 
-mul-out : tie.Need-mul-out
-mul-out c = search needs
-
-slice-write-out : tie.Need-slice-write-out
-slice-write-out c = let h = rw (c .before .before .before .before .if1 .taken) at (c .before .before .before .before .before .before .before .before .pre .2) in omega (arith, h)
+put-requires : tie.Need-put-requires
+put-requires c κs = search needs
 
 entry-more-requires : tie.Need-entry-more-requires
 entry-more-requires c κs = search needs
@@ -26,16 +21,14 @@ same-length c = search needs
 
 returns : tie.Need-returns
 returns c =
-    let e = c .before .before .before .before .before .if1 .taken in
-    let a = sym (c .before .before .before .final-added .ensures) ∙ c .before .before .if2 .taken in
-    record { counts = rw (e, a) (c .entry-more .ensures); left = rw (e, a, ← c .before .last .ensures) }
-
-same-length-2 : tie.Need-same-length-2
-same-length-2 c = search needs
+    let p = c .before .before .before .before .before .before in
+    let e = p .before .before .if1 .taken in
+    let a = sym (p .before .final-added .ensures) ∙ p .if2 .taken in
+    record { counts = rw (e, a) (c .entry-more .ensures); left = rw (e, a, ← c .before .before .before .before .last .ensures) (c .before .before .before .put .ensures) }
 
 returns-2 : tie.Need-returns-2
 returns-2 c =
-    let e = c .before .before .before .if1 .taken in
+    let e = c .before .before .if1 .taken in
     let a = sym (c .before .final-added .ensures) ∙ c .if2 .left in
     record { counts = rw (e, a); left = rw (e, a) }
 
@@ -48,11 +41,9 @@ finish-spec =
     (tie.spec
     final-added-requires
     last-requires
-    mul-out
-    slice-write-out
+    put-requires
     entry-more-requires
     same-length
     returns
-    same-length-2
     returns-2
     returns-3)

@@ -1,63 +1,68 @@
--- `list_tests::tests::every_pair` meets its contract. Assumes nothing.
-use Prim.Native.Nat.{_≤_, _-_, _+_}
-use mathlib.Core.Path.{_≡_, sym, _∙_}
-use mathlib.Core.Bool.{true}
+use Prim.Native.Nat.{_+_, _-_, _/_, _≤_}
+use mathlib.Core.Path.{_≡_, sym, ap₂, _∙_}
+use mathlib.Core.Bool.{_&&_}
 use native.Mathlib.Omega.{arith}
-use borrow.Author.Needs.{needs}
 use lib.ListN.{length}
 use Rattle.loops.specs.Upto.{every, at}
-use Rattle.loops.proofs.Counting.{every-more, every-fails, every-none}
 use Rattle.loops.specs.Entries.{everyPair}
+use Rattle.loops.proofs.Counting.{every-none, every-next}
+use Rattle.byte_lists.specs.Bytes.{doublesOf}
+use Rattle.byte_lists.proofs.Fronts.{length-doubles}
 use Rattle.list_tests.specs.Tests.{pairTest}
+use borrow.Author.Needs.{needs}
 use Rattle.list_tests.proofs.tests.every_pair.Statement.{statement}
 use Rattle.list_tests.proofs.tests.every_pair.Tie as tie
 
 abbrev Inv-loop : tie.InvT-loop
-Inv-loop test x i₀ i = (i ≤ length x - 1) × (every (λ k. pairTest test (at x k) (at x (k + 1))) i ≡ true)
+Inv-loop test b all₀ k₀ all k = (k ≤ length b / 8 - 1) × (all ≡ every (λ j. pairTest test (at (doublesOf b) j) (at (doublesOf b) (j + 1))) k)
 
 abbrev μ-loop : tie.MeasureT-loop
-μ-loop test x i₀ i = length x - 1 - i
+μ-loop test b all₀ k₀ all k = length b / 8 - 1 - k
 
 loop-holds : tie.Need-loop-holds Inv-loop μ-loop
-loop-holds c = (search needs, every-none _)
+loop-holds c = (omega arith, sym (every-none _))
 
 add-loop : tie.Need-add-loop Inv-loop μ-loop
-add-loop c = search needs
+add-loop c = omega arith
 
-mul-pair-passes : tie.Need-mul-pair-passes Inv-loop μ-loop
-mul-pair-passes c = search needs
+finite-at-requires : tie.Need-finite-at-requires Inv-loop μ-loop
+finite-at-requires c κs = (omega arith, c .before .before .before .pre)
 
-shared-slice-read-pair-passes : tie.Need-shared-slice-read-pair-passes Inv-loop μ-loop
-shared-slice-read-pair-passes c = search needs
+add-finite-at : tie.Need-add-finite-at Inv-loop μ-loop
+add-finite-at c = omega arith
 
-add-pair-passes : tie.Need-add-pair-passes Inv-loop μ-loop
-add-pair-passes c = search needs
-
-mul-pair-passes-2 : tie.Need-mul-pair-passes-2 Inv-loop μ-loop
-mul-pair-passes-2 c = search needs
-
-shared-slice-read-pair-passes-2 : tie.Need-shared-slice-read-pair-passes-2 Inv-loop μ-loop
-shared-slice-read-pair-passes-2 c = search needs
+finite-at-requires-2 : tie.Need-finite-at-requires-2 Inv-loop μ-loop
+finite-at-requires-2 c κs = search needs
 
 pair-passes-requires : tie.Need-pair-passes-requires Inv-loop μ-loop
 pair-passes-requires c κs = search needs
 
-add-i : tie.Need-add-i Inv-loop μ-loop
-add-i c = search needs
+both-requires : tie.Need-both-requires Inv-loop μ-loop
+both-requires c κs = search needs
+
+add-k : tie.Need-add-k Inv-loop μ-loop
+add-k c = omega arith
 
 loop-less : tie.Need-loop-less Inv-loop μ-loop
-loop-less c = search needs
+loop-less c = omega arith
 
 loop-again : tie.Need-loop-again Inv-loop μ-loop
-loop-again c = (search needs, every-more _ _ (c .before .before .before .before .before .loop .inv .1) (sym (c .before .pair-passes .ensures) ∙ c .if1 .taken))
+loop-again c =
+    let p = c .before .before in
+    let l = p .before .before .before .loop in
+    let test = p .before .before .before .before .before .args .test in (
+      omega arith,
+      c .both .ensures
+          ∙ ap₂ _&&_ (l .inv .1) (c .before .pair-passes .ensures ∙ ap₂ (pairTest test) (p .before .finite-at .ensures) (p .finite-at2 .ensures))
+          ∙ sym (every-next _ (l .k)),
+    )
 
 returns : tie.Need-returns Inv-loop μ-loop
 unfolding everyPair
-returns c = sym (every-fails _ (c .before .before .before .before .before .loop .i) _ (search needs) (sym (c .before .pair-passes .ensures) ∙ c .if1 .left))
-
-returns-2 : tie.Need-returns-2 Inv-loop μ-loop
-unfolding everyPair
-returns-2 c = let e : c .before .loop .i ≡ length (c .before .before .before .args .x .now) - 1 = omega arith in sym (rw e at (c .before .loop .inv .1))
+returns c =
+    let b = c .before .before .before .args .b .now in
+    let e : c .before .loop .k ≡ length (doublesOf b) - 1 = omega (arith, length-doubles b) in
+    rw e at (c .before .loop .inv .1)
 
 pub every-pair-spec : {M : Type 1} → statement M
 every-pair-spec =
@@ -67,14 +72,12 @@ every-pair-spec =
     μ-loop
     loop-holds
     add-loop
-    mul-pair-passes
-    shared-slice-read-pair-passes
-    add-pair-passes
-    mul-pair-passes-2
-    shared-slice-read-pair-passes-2
+    finite-at-requires
+    add-finite-at
+    finite-at-requires-2
     pair-passes-requires
-    add-i
+    both-requires
+    add-k
     loop-less
     loop-again
-    returns
-    returns-2)
+    returns)

@@ -1,56 +1,41 @@
--- `sloping::slopes::slope` meets its contract. Assumes nothing.
-use mathlib.Core.Path.{refl}
-use borrow.Author.Needs.{needs}
+use native.Mathlib.Omega.{arith}
 use Rattle.sloping.specs.Slopes.{slope}
+use borrow.Author.Needs.{needs}
 use Rattle.sloping.proofs.slopes.slope.Statement.{statement}
 use Rattle.sloping.proofs.slopes.slope.Tie as tie
 
-add-result : tie.Need-add-result
-add-result c = search needs
+add-finite-at : tie.Need-add-finite-at
+add-finite-at c = search needs
 
-mul-result : tie.Need-mul-result
-mul-result c = search needs
+finite-at-requires : tie.Need-finite-at-requires
+finite-at-requires c κs = search needs
 
-shared-slice-read-result : tie.Need-shared-slice-read-result
-shared-slice-read-result c = search needs
+finite-at-requires-2 : tie.Need-finite-at-requires-2
+finite-at-requires-2 c κs = search needs
 
-mul-result-2 : tie.Need-mul-result-2
-mul-result-2 c = search needs
+add-finite-at-2 : tie.Need-add-finite-at-2
+add-finite-at-2 c = search needs
 
-shared-slice-read-result-2 : tie.Need-shared-slice-read-result-2
-shared-slice-read-result-2 c = search needs
+finite-at-requires-3 : tie.Need-finite-at-requires-3
+finite-at-requires-3 c κs = search needs
 
-add-result-2 : tie.Need-add-result-2
-add-result-2 c = search needs
-
-mul-result-3 : tie.Need-mul-result-3
-mul-result-3 c = search needs
-
-shared-slice-read-result-3 : tie.Need-shared-slice-read-result-3
-shared-slice-read-result-3 c = search needs
-
-mul-result-4 : tie.Need-mul-result-4
-mul-result-4 c = search needs
-
-shared-slice-read-result-4 : tie.Need-shared-slice-read-result-4
-shared-slice-read-result-4 c = search needs
+finite-at-requires-4 : tie.Need-finite-at-requires-4
+finite-at-requires-4 c κs = search needs
 
 returns : tie.Need-returns
 unfolding slope
-returns c = refl
+returns c =
+    let p = c .before .before in
+    rw (p .before .finite-at .ensures, p .finite-at2 .ensures, c .before .finite-at3 .ensures, c .finite-at4 .ensures)
 
 pub slope-spec : {M : Type 1} → statement M
 slope-spec =
     tie.close
     (tie.spec
-    add-result
-    mul-result
-    shared-slice-read-result
-    mul-result-2
-    shared-slice-read-result-2
-    add-result-2
-    mul-result-3
-    shared-slice-read-result-3
-    mul-result-4
-    shared-slice-read-result-4
+    add-finite-at
+    finite-at-requires
+    finite-at-requires-2
+    add-finite-at-2
+    finite-at-requires-3
+    finite-at-requires-4
     returns)

@@ -1,73 +1,54 @@
--- `timing::times::settle` meets its contract. Assumes nothing.
-use mathlib.Core.Path.{refl, sym, ap, _∙_}
+use mathlib.Core.Path.{refl, sym, _∙_}
 use native.Mathlib.Omega.{arith}
+use Rattle.byte_lists.proofs.Fronts.{length-doubles}
+use Rattle.byte_lists.proofs.Replies.{replies, declines}
+use Rattle.timing.proofs.Timing.{told-by-last, written-same}
 use borrow.Author.Needs.{needs}
-use lib.Ieee.Scale.{finite}
-use Rattle.timing.specs.Times.{timesFinite}
-use Rattle.timing.specs.declared.times.Timed.the-variants.{Done}
-use Rattle.refusals.specs.Most.{mostStations}
-use Rattle.refusals.proofs.Outcomes.{refuses, succeeds}
-use Rattle.timing.proofs.Filled.{front-length, front-fits, front-entries, front-copied}
 use Rattle.timing.proofs.times.settle.Statement.{statement}
 use Rattle.timing.proofs.times.settle.Tie as tie
-
-slice-aggregate-fill : tie.Need-slice-aggregate-fill
-slice-aggregate-fill c = search needs
 
 fill-requires : tie.Need-fill-requires
 fill-requires c κs = search needs
 
-array-share-prefix-times : tie.Need-array-share-prefix-times
-array-share-prefix-times c = search needs
+finite-requires : tie.Need-finite-requires
+finite-requires c κs = search needs
 
-slice-aggregate-every-entry : tie.Need-slice-aggregate-every-entry
-slice-aggregate-every-entry c = front-length _ mostStations _ (c .before .before .fill .kept .1 .1 .1 .0) (search needs)
-
-every-entry-requires : tie.Need-every-entry-requires
-every-entry-requires c κs = search needs
-
-array-share-prefix-times-2 : tie.Need-array-share-prefix-times-2
-array-share-prefix-times-2 c = search needs
-
-slice-aggregate-copy : tie.Need-slice-aggregate-copy
-slice-aggregate-copy c = front-length _ mostStations _ (c .before .before .before .before .before .fill .kept .1 .1 .1 .0) (search needs)
-
-copy-requires : tie.Need-copy-requires
-copy-requires c κs =
-    let f = c .before .before .before .before .before .before in
-    let e = f .before .before .before .before .before in
-    front-fits _ mostStations _ _ (f .fill .kept .1 .1 .1 .0) (e .pre .2) (e .pre .3)
+write-requires : tie.Need-write-requires
+write-requires c κs = search needs
 
 same-length : tie.Need-same-length
 same-length c = search needs
 
+same-length-2 : tie.Need-same-length-2
+same-length-2 c = search needs
+
 returns : tie.Need-returns
-unfolding timesFinite
 returns c =
     let d = c .before .before .before .before .before in
-    let f = d .before .before .before .before .fill .ensures in
-    let w = sym (front-entries _ _ _ _ (f .1) finite) ∙ sym (d .before .every-entry .ensures) ∙ d .if1 .taken in
-    succeeds (rw w refl) (ap Done (f .0)) (c .before .before .copy .ensures ∙ front-copied _ _ _ _ (f .1) _)
+    let f = d .before .before .before .before in
+    let e = f .before .before .before .before .before .before in
+    let w = told-by-last (e .args .s .now) _ _ _ (e .pre .1 .some) (f .fill .ensures .0) ∙ sym (d .before .finite .ensures) ∙ d .if1 .taken in
+    replies (rw w refl) refl (rw (length-doubles (e .args .s .now)) (c .before .before .write .ensures ∙ written-same _ _ _ _ _ (f .fill .ensures .1)))
+
+same-length-3 : tie.Need-same-length-3
+same-length-3 c = search needs
 
 returns-2 : tie.Need-returns-2
-unfolding timesFinite
 returns-2 c =
-    let f = c .before .before .before .before .fill .ensures in
-    let w = sym (front-entries _ _ _ _ (f .1) finite) ∙ sym (c .before .every-entry .ensures) ∙ c .if1 .left in
-    refuses 19 (sym (rw w refl)) (omega arith)
+    let f = c .before .before .before .before in
+    let e = f .before .before .before .before .before .before in
+    let w = told-by-last (e .args .s .now) _ _ _ (e .pre .1 .some) (f .fill .ensures .0) ∙ sym (c .before .finite .ensures) ∙ c .if1 .left in
+    declines (rw w refl) (omega arith)
 
 pub settle-spec : {M : Type 1} → statement M
 settle-spec =
     tie.close
     (tie.spec
-    slice-aggregate-fill
     fill-requires
-    array-share-prefix-times
-    slice-aggregate-every-entry
-    every-entry-requires
-    array-share-prefix-times-2
-    slice-aggregate-copy
-    copy-requires
+    finite-requires
+    write-requires
     same-length
+    same-length-2
     returns
+    same-length-3
     returns-2)
