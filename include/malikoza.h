@@ -20,15 +20,13 @@
  *     -ffast-math does);
  *   - the thread has stack enough.
  *
- * Stack, in KiB, as measured: the least thread (Linux, x86-64) on which the largest call returned, and such refused ones as
- * go deeper. The example `stack` of host/malikoza measures it.
+ * Stack, in KiB, as measured: the least thread (Linux, x86-64) on which calls returned, and such refused ones as go deeper.
+ * Small calls have up to 256 stations, 1,024 samples, 32 rows. The example `stack` of host/malikoza measures it.
  *
- *   malikoza_t_to_s_list    1128
- *   malikoza_t_to_s_grid     616
- *   malikoza_s_to_t          136
- *   malikoza_a_to_b          104
- *   malikoza_recover          28
- *   every other entry         16, the least thread there is
+ *                        small calls    the largest
+ *   malikoza_s_to_t               40             40
+ *   malikoza_recover              24             24
+ *   every other entry     at most 16, the least thread that one can ask for
  */
 #ifndef MALIKOZA_H
 #define MALIKOZA_H

@@ -16,7 +16,7 @@ use std::time::Instant;
 /// A run stops after so many differences.
 const ENOUGH: u64 = 3;
 
-/// As much stack as a program's first thread has: the entries keep what they decode there.
+/// As much stack as a program's first thread has.
 const STACK: usize = 8 << 20;
 
 #[derive(Clone)]

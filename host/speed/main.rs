@@ -1,17 +1,24 @@
 //! The library's speed beside the Rust original's, on the same inputs in one run.
 //!
-//! `host/run speed` prints one table: for each operation the instructions for each unit of work (a station, a sample, a row and candidate, a call) of the
-//! original and of the library's entry, which takes byte lists, the ratio of the entry to the original, the ratio of their times, and the entry's
-//! instructions for each unit at a quarter, half and the whole of the size, which must not grow.
+//! `host/run speed` prints two tables; with words after it, only the operations whose names hold one of them, and the second table if `small` is among them.
+//! The first has for each operation the instructions for each unit of work (a station, a sample, a row and candidate, a call) of the original and of the
+//! library's entry, which takes byte lists, the ratio of the entry to the original, the ratio of their times, and the entry's instructions for each unit at a
+//! quarter, half and the whole of the size, which must not grow. The second has the time of small calls.
 //!
 //! Instructions are counted by running this program under valgrind, or under the command that COUNTER names (on Arm: qemu-x86_64 with a plugin that counts and
-//! prints a line "instructions N"), each operation with one turn and with `TURNS` more: the difference is what the turns took. From a leaf's calls the loop around them is taken off.
+//! prints a line "instructions N"), each operation with one turn and with `TURNS` more: the difference is what the turns took. From a leaf's calls the loop
+//! around them is taken off.
+//!
+//! The C library clears and copies long arrays with one repeated instruction, which valgrind counts once for every byte. The run under the counter tells it to
+//! use vector stores at every length (`PLAIN`), for both sides alike: a store is then counted once, as every other instruction is.
 
 #![allow(unstable_name_collisions)] // next_down is stable from Rust 1.86 on
 
 mod inputs;
+mod library;
 mod original;
 mod sides;
+mod small;
 
 use sides::{Side, Work};
 use std::process::Command;
@@ -20,8 +27,17 @@ use std::time::Instant;
 /// How often an operation is repeated under the counter.
 const TURNS: u64 = 4;
 
+/// How often it is timed.
+const TIMES: usize = 40;
+
 /// Sizes as shares of the whole.
 const SHARES: [u64; 3] = [4, 2, 1];
+
+/// The first word of a run under the counter.
+const COUNTED: &str = "--counted";
+
+/// The C library's setting for a run under the counter: no length is enough for a repeated instruction.
+const PLAIN: (&str, &str) = ("GLIBC_TUNABLES", "glibc.cpu.x86_rep_stosb_threshold=100000000:glibc.cpu.x86_rep_movsb_threshold=100000000");
 
 /// Instructions of a run of this program with the given words.
 fn counted(words: &[String]) -> u64 {
@@ -39,7 +55,7 @@ fn counted(words: &[String]) -> u64 {
             command
         }
     };
-    let output = command.arg(this).args(words).output().expect("a counter: valgrind, or the command in COUNTER");
+    let output = command.env(PLAIN.0, PLAIN.1).arg(this).arg(COUNTED).args(words).output().expect("a counter: valgrind, or the command in COUNTER");
     let told = String::from_utf8_lossy(&output.stderr).into_owned();
     let line = told.lines().find(|line| line.contains("Collected") || line.starts_with("instructions"));
     line.and_then(|line| line.rsplit(' ').next()).and_then(|n| n.parse().ok()).unwrap_or_else(|| panic!("no count in: {told}"))
@@ -67,7 +83,7 @@ fn time(work: &Work, side: Side) -> f64 {
         work.turn(side, 1);
         start.elapsed().as_secs_f64()
     };
-    (0..40).map(|_| once()).fold(f64::INFINITY, f64::min)
+    (0..TIMES).map(|_| once()).fold(f64::INFINITY, f64::min)
 }
 
 fn line(work: &Work) {
@@ -94,15 +110,25 @@ fn run(words: &[String]) {
     }
 }
 
+fn table(chosen: &[&Work]) {
+    println!("{:<50} {:>9} {:>9} {:>6} {:>6}   library at a quarter, half, whole", "instructions", "original", "library", "ratio", "time");
+    for work in chosen {
+        line(work);
+    }
+    println!("The time is the library's by the original's, each the least of {TIMES}; it depends on the machine and its load.");
+}
+
 fn main() {
     let words: Vec<String> = std::env::args().skip(1).collect();
-    if words.len() == 4 {
-        return run(&words);
+    if words.first().is_some_and(|word| word == COUNTED) {
+        return run(&words[1..]);
     }
-    println!("{:<50} {:>9} {:>9} {:>6} {:>6}   library at a quarter, half, whole", "instructions", "original", "library", "ratio", "time");
-    for work in &Work::ALL {
-        if words.is_empty() || words.iter().any(|word| work.name.contains(word.as_str())) {
-            line(work);
-        }
+    let asked = |work: &&Work| words.is_empty() || words.iter().any(|word| work.name.contains(word.as_str()));
+    let chosen: Vec<&Work> = Work::ALL.iter().filter(asked).collect();
+    if !chosen.is_empty() {
+        table(&chosen);
+    }
+    if words.is_empty() || words.iter().any(|word| word == "small") {
+        small::table();
     }
 }

@@ -16,7 +16,7 @@
 //! lent, and nothing at all where they refuse; [`owned`] has the same ones with a list of their own. A NaN of any pattern reads as NaN, and every NaN
 //! answered is 7FF8000000000000.
 //!
-//! A conversion keeps its lists on the stack: include/malikoza.h lists how much each entry needs.
+//! The conversions read and write the slices where they stand. No call needs more than 40 KiB of stack: include/malikoza.h lists how much each entry needs.
 //!
 //! ```
 //! let s = [0.0, 1.0, 3.0];
