@@ -4,14 +4,19 @@
  * refused by a number. The entries keep no state, so several threads may call them at once.
  *
  * Doubles pass in two ways:
- *   - one double as its 64-bit pattern in a uint64_t (copy it with memcpy);
+ *   - one double as its 64-bit pattern in a uint64_t: malikoza_pattern(x) makes it, malikoza_double(p) reads it;
  *   - many doubles as a byte list: a pointer, then a length in BYTES. Each double is eight bytes, low byte first. On x86-64
  *     an array of doubles is such a list already: pass (const uint8_t *)array and sizeof array. No alignment is needed.
  *
+ * WARNING: C turns a double into a whole number without a word. malikoza_sqrt(2.0) is given the number 2, which is the
+ * pattern of 2^-1073, and answers the root of that; malikoza_sqrt(malikoza_pattern(2.0)) is meant. gcc and clang tell of
+ * it with -Wfloat-conversion, but not where the double is a constant without a fraction, as here.
+ *
  * NaN: every NaN pattern, of either sign and any payload, reads as NaN; a NaN is always written 7FF8000000000000.
  *
- * An entry that can refuse returns 0, or the refusal number. Success writes the front of the output and no more; a refusal
- * writes nothing, neither to the output nor to the numbers lent beside it.
+ * An entry that can refuse returns 0, or the refusal number, of which malikoza_refusal_text has a sentence. Success writes
+ * the front of the output and no more; a refusal writes nothing, neither to the output nor to the numbers lent beside it.
+ * docs/RULES.md has every rule in full, with worked figures.
  *
  * The caller answers for what no entry can test:
  *   - a pointer is not NULL, even where its length is 0, and as many bytes as its length says stand behind it;
@@ -33,6 +38,10 @@
 
 #include <stddef.h>
 #include <stdint.h>
+#include <string.h>
+
+/* CHANGELOG.md has what each version changes for a caller. */
+#define MALIKOZA_VERSION "0.2.0"
 
 #ifdef __cplusplus
 extern "C" {
@@ -40,52 +49,108 @@ extern "C" {
 
 /* Limits. Stations are 2 at least, samples of a list 1. */
 enum {
-    MALIKOZA_MOST_ROWS = 256,
-    MALIKOZA_MOST_STATIONS = 4096,
-    MALIKOZA_MOST_SAMPLES = 65536 /* the final station of a grid not counted */
+    MALIKOZA_MAX_ROWS = 256,
+    MALIKOZA_MAX_STATIONS = 4096,
+    MALIKOZA_MAX_SAMPLES = 65536 /* the final station of a grid not counted */
 };
 
-/* Refusals. */
+/* Refusals. malikoza_refusal_text has a sentence for each, docs/RULES.md the exact rule. */
 enum {
     /* Recovery, in this order, after 10: */
-    MALIKOZA_ROWS_LENGTH = 1,                /* list length no multiple of 3, or over 768 */
-    MALIKOZA_REQUEST_NUMBER = 2,             /* a tolerance not finite or negative; a_prev or a previous interval end
-                                                not finite; a current end or path cap NaN */
-    MALIKOZA_PREVIOUS_STATION = 3,           /* previous lower or upper not finite, or a_prev outside */
-    MALIKOZA_CURRENT_BOUNDS = 4,             /* lower or upper not finite, or lower > upper */
-    MALIKOZA_ROW_NUMBER = 5,                 /* any row: a number not finite; norm not finite; norm not zero and
-                                                1/norm or raw_tol not finite */
-    MALIKOZA_ROW_IMPOSSIBLE = 6,             /* any row with norm zero and rhs < 0 */
-    MALIKOZA_PROJECTION_NOT_FINITE = 7,      /* cap failed, and r of any row not finite */
-    MALIKOZA_PROJECTION_EMPTY = 8,           /* a row with c zero and r < 0, or a projected end not finite, or low >
-                                                high */
-    MALIKOZA_MIDDLE_FAILS = 9,               /* middle fails after the neighbours failed */
+    MALIKOZA_ROWS_LENGTH = 1,
+    MALIKOZA_REQUEST_NUMBER = 2,
+    MALIKOZA_PREVIOUS_STATION = 3,
+    MALIKOZA_CURRENT_BOUNDS = 4,
+    MALIKOZA_ROW_NUMBER = 5,
+    MALIKOZA_ROW_IMPOSSIBLE = 6,
+    MALIKOZA_PROJECTION_NOT_FINITE = 7,
+    MALIKOZA_PROJECTION_EMPTY = 8,
+    MALIKOZA_MIDDLE_FAILS = 9,
 
-    /* Every entry that takes a byte list: */
-    MALIKOZA_NOT_EIGHTS = 10,                /* C boundary only, recovery too: a byte list, output included, of a
-                                                length not divisible by eight; before all others */
+    /* Every entry that takes a byte list, before all others: */
+    MALIKOZA_NOT_EIGHTS = 10,
 
-    /* Stations s, squared speeds a, times; each entry says which it gives, in which order: */
-    MALIKOZA_STATION_COUNT = 11,             /* fewer than 2 stations or more than 4,096 */
-    MALIKOZA_SPEED_COUNT = 12,               /* a of another length */
-    MALIKOZA_STATION_NOT_FINITE = 13,        /* s with an entry not finite */
-    MALIKOZA_SPEED_NOT_FINITE = 14,          /* a with an entry not finite */
-    MALIKOZA_STATIONS_NOT_INCREASING = 15,   /* s not strictly increasing */
-    MALIKOZA_START_NOT_FINITE = 16,          /* t0 not finite */
-    MALIKOZA_SPEED_NEGATIVE = 17,            /* an a below zero (minus zero is not) */
-    MALIKOZA_STANDSTILL = 18,                /* two neighbouring a both zero */
-    MALIKOZA_COMPUTED_TIME_NOT_FINITE = 19,  /* a computed time not finite */
-    MALIKOZA_TIME_COUNT = 20,                /* time list: other length */
-    MALIKOZA_TIME_NOT_FINITE = 21,           /* time list: not finite */
-    MALIKOZA_TIMES_NOT_INCREASING = 22,      /* time list: not strictly increasing */
-    MALIKOZA_STEP_NOT_FINITE = 23,           /* dt not finite */
-    MALIKOZA_STEP_NOT_POSITIVE = 24,         /* dt <= 0 */
-    MALIKOZA_NO_SAMPLES = 25,                /* sample list: empty */
-    MALIKOZA_SAMPLE_NOT_FINITE = 26,         /* sample list: not finite */
-    MALIKOZA_SAMPLES_NOT_INCREASING = 27,    /* sample list: not strictly increasing */
-    MALIKOZA_TOO_MANY_SAMPLES = 28,          /* more than 65,536 samples */
-    MALIKOZA_OUTPUT_TOO_SHORT = 29           /* output shorter than needed */
+    /* Stations, squared speeds, times; each entry says which it gives, in which order: */
+    MALIKOZA_STATION_COUNT = 11,
+    MALIKOZA_SPEED_COUNT = 12,
+    MALIKOZA_STATION_NOT_FINITE = 13,
+    MALIKOZA_SPEED_NOT_FINITE = 14,
+    MALIKOZA_STATIONS_NOT_INCREASING = 15,
+    MALIKOZA_START_NOT_FINITE = 16,
+    MALIKOZA_SPEED_NEGATIVE = 17,
+    MALIKOZA_STANDSTILL = 18,
+    MALIKOZA_COMPUTED_TIME_NOT_FINITE = 19,
+    MALIKOZA_TIME_COUNT = 20,
+    MALIKOZA_TIME_NOT_FINITE = 21,
+    MALIKOZA_TIMES_NOT_INCREASING = 22,
+    MALIKOZA_STEP_NOT_FINITE = 23,
+    MALIKOZA_STEP_NOT_POSITIVE = 24,
+    MALIKOZA_NO_SAMPLES = 25,
+    MALIKOZA_SAMPLE_NOT_FINITE = 26,
+    MALIKOZA_SAMPLES_NOT_INCREASING = 27,
+    MALIKOZA_TOO_MANY_SAMPLES = 28,
+    MALIKOZA_OUTPUT_TOO_SHORT = 29
 };
+
+/* A refusal in words, with its number; and words for 0, which is none. */
+static inline const char *malikoza_refusal_text(uint64_t number) {
+    switch (number) {
+    case 0: return "no refusal: the call was answered";
+    case MALIKOZA_ROWS_LENGTH: return "refusal 1: a row is three doubles, and 256 rows are the most";
+    case MALIKOZA_REQUEST_NUMBER:
+        return "refusal 2: tolerances must be finite and not negative, a_prev and the previous interval finite, no other bound NaN";
+    case MALIKOZA_PREVIOUS_STATION:
+        return "refusal 3: the previous station's bounds must be finite, and a_prev must lie between them";
+    case MALIKOZA_CURRENT_BOUNDS:
+        return "refusal 4: the current station's bounds must be finite, and the lower one not above the upper";
+    case MALIKOZA_ROW_NUMBER:
+        return "refusal 5: the numbers of a row must be finite, and neither too large nor too small to be worked with";
+    case MALIKOZA_ROW_IMPOSSIBLE:
+        return "refusal 6: both coefficients of a row are zero and its rhs is below zero: no speed meets it";
+    case MALIKOZA_PROJECTION_NOT_FINITE:
+        return "refusal 7: the cap fails, and the numbers of a row are too large to tell which speeds it allows";
+    case MALIKOZA_PROJECTION_EMPTY: return "refusal 8: the rows leave no speed between the bounds";
+    case MALIKOZA_MIDDLE_FAILS:
+        return "refusal 9: no speed was found: the end that the rows leave fails, and so do its neighbours and the middle";
+    case MALIKOZA_NOT_EIGHTS:
+        return "refusal 10: the length of every byte list, output included, must be a multiple of eight";
+    case MALIKOZA_STATION_COUNT: return "refusal 11: 2 to 4,096 stations are needed";
+    case MALIKOZA_SPEED_COUNT: return "refusal 12: as many squared speeds as stations are needed";
+    case MALIKOZA_STATION_NOT_FINITE: return "refusal 13: every station must be finite";
+    case MALIKOZA_SPEED_NOT_FINITE: return "refusal 14: every squared speed must be finite";
+    case MALIKOZA_STATIONS_NOT_INCREASING: return "refusal 15: each station must lie beyond the one before it";
+    case MALIKOZA_START_NOT_FINITE: return "refusal 16: the start time t0 must be finite";
+    case MALIKOZA_SPEED_NEGATIVE: return "refusal 17: no squared speed may be below zero";
+    case MALIKOZA_STANDSTILL:
+        return "refusal 18: of two neighbouring squared speeds one must be above zero, or the knife stands still";
+    case MALIKOZA_COMPUTED_TIME_NOT_FINITE: return "refusal 19: a time comes out too large: it is not finite";
+    case MALIKOZA_TIME_COUNT: return "refusal 20: as many times as stations are needed";
+    case MALIKOZA_TIME_NOT_FINITE: return "refusal 21: every time must be finite";
+    case MALIKOZA_TIMES_NOT_INCREASING: return "refusal 22: each time must be later than the one before it";
+    case MALIKOZA_STEP_NOT_FINITE: return "refusal 23: the step dt must be finite";
+    case MALIKOZA_STEP_NOT_POSITIVE: return "refusal 24: the step dt must be above zero";
+    case MALIKOZA_NO_SAMPLES: return "refusal 25: one sample at least is needed";
+    case MALIKOZA_SAMPLE_NOT_FINITE: return "refusal 26: every sample must be finite";
+    case MALIKOZA_SAMPLES_NOT_INCREASING: return "refusal 27: each sample must be later than the one before it";
+    case MALIKOZA_TOO_MANY_SAMPLES: return "refusal 28: 65,536 samples are the most";
+    case MALIKOZA_OUTPUT_TOO_SHORT: return "refusal 29: the output has too little room";
+    default: return "a refusal that this version does not know";
+    }
+}
+
+/* The pattern of a double, as the entries take it. */
+static inline uint64_t malikoza_pattern(double x) {
+    uint64_t pattern;
+    memcpy(&pattern, &x, sizeof pattern);
+    return pattern;
+}
+
+/* The double that a pattern stands for. */
+static inline double malikoza_double(uint64_t pattern) {
+    double x;
+    memcpy(&x, &pattern, sizeof x);
+    return x;
+}
 
 /* Number leaves. They take and return patterns, write nothing and refuse nothing. "Nearest" is the closest double, ties to
  * even; an exact size of 2^1024 - 2^970 or more gives infinity. */

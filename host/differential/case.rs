@@ -19,14 +19,31 @@ pub enum Entry {
 }
 
 impl Entry {
-    pub const LEAVES: [Entry; 8] =
-        [Entry::Sqrt, Entry::Fma, Entry::Hypot, Entry::NextDown, Entry::Minimum, Entry::Maximum, Entry::Absolute, Entry::WholePart];
+    pub const LEAVES: [Entry; 8] = [
+        Entry::Sqrt,
+        Entry::Fma,
+        Entry::Hypot,
+        Entry::NextDown,
+        Entry::Minimum,
+        Entry::Maximum,
+        Entry::Absolute,
+        Entry::WholePart,
+    ];
     pub const CONVERSIONS: [Entry; 4] = [Entry::AToB, Entry::SToT, Entry::TToSList, Entry::TToSGrid];
 
     /// The entry's name; its numbers (patterns, or the flag of the grid); its byte lists; and the four numbers it is lent, if any.
     pub fn names(self) -> (&'static str, &'static [&'static str], &'static [&'static str], &'static [&'static str]) {
         const REQUEST: &[&str] = &[
-            "a_prev", "prev_lower", "prev_upper", "prev_cap", "curr_lower", "curr_upper", "curr_cap", "feas_tol", "a_cmp_abs_tol", "a_cmp_rel_tol",
+            "a_prev",
+            "prev_lower",
+            "prev_upper",
+            "prev_cap",
+            "curr_lower",
+            "curr_upper",
+            "curr_cap",
+            "feas_tol",
+            "a_cmp_abs_tol",
+            "a_cmp_rel_tol",
         ];
         const FIGURES: &[&str] = &["speed", "worst_normalized", "worst_raw", "tried"];
         const COUNTS: &[&str] = &["before", "inside", "past", "written"];
@@ -143,7 +160,11 @@ impl Answer {
 
 /// A double's pattern; document 01: every NaN of ours "is always 7FF8000000000000 in hex".
 pub fn pattern(x: f64) -> u64 {
-    if x.is_nan() { crate::random::NAN } else { x.to_bits() }
+    if x.is_nan() {
+        crate::random::NAN
+    } else {
+        x.to_bits()
+    }
 }
 
 /// Document 01's allowances against Rust: "the two zeros compare equal, all NaN compare equal".

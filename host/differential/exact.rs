@@ -74,7 +74,11 @@ impl Whole {
 /// The size of a finite magnitude's pattern in units of 2^-1074. Infinity's counts as 2^1024, so that the last point half way is the limit of overflow.
 fn units(magnitude: u64) -> Whole {
     let (field, fraction) = (magnitude >> 52, magnitude & ((1 << 52) - 1));
-    if field == 0 { Whole::from(fraction) } else { Whole::from(fraction | 1 << 52).shifted(field as usize - 1) }
+    if field == 0 {
+        Whole::from(fraction)
+    } else {
+        Whole::from(fraction | 1 << 52).shifted(field as usize - 1)
+    }
 }
 
 /// Whether the magnitude's pattern r is the nearest to a size of which `twice(k)` tells how twice it compares with k units.
@@ -83,7 +87,9 @@ fn is_nearest(r: u64, twice: impl Fn(&Whole) -> Ordering) -> bool {
         let half_way = twice(&units(r).plus(&units(neighbour)));
         half_way == side || half_way == Ordering::Equal && r % 2 == 0
     };
-    r <= INFINITY && (r == INFINITY || on_its_side(r + 1, Ordering::Less)) && (r == 0 || on_its_side(r - 1, Ordering::Greater))
+    r <= INFINITY
+        && (r == INFINITY || on_its_side(r + 1, Ordering::Less))
+        && (r == 0 || on_its_side(r - 1, Ordering::Greater))
 }
 
 /// "plus and minus zero and plus infinity give themselves; other negatives and NaN give NaN; else the nearest"

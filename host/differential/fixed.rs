@@ -199,7 +199,8 @@ fn two_stations(digits: &mut Digits) -> Case {
 
 /// All lists of three over a small set, for both ways of sampling.
 fn three_stations(digits: &mut Digits) -> Case {
-    let (s, a, t) = (digits.list(&[0.0, 1.0, 3.0], 3), digits.list(&[0.0, 4.0, 1.0], 3), digits.list(&[10.0, 11.0, 12.0], 3));
+    let (s, a, t) =
+        (digits.list(&[0.0, 1.0, 3.0], 3), digits.list(&[0.0, 4.0, 1.0], 3), digits.list(&[10.0, 11.0, 12.0], 3));
     let mut draft = profiles::Draft::new(digits.one(&[Entry::TToSList, Entry::TToSGrid]), s, a, t);
     draft.samples = vec![9.0, 10.0, 10.5, 11.0, 11.5, 12.0, 12.5];
     (draft.t0, draft.dt, draft.with_final) = (10.0, 0.75, 1);

@@ -1,10 +1,10 @@
 //! What each call must leave behind, and what the original says to the same input.
 
-#[allow(unused_imports)]
-use crate::original::completed::NextDown;
 use crate::case::{alike, Answer, Case, Entry, LENT};
 use crate::leaves;
 use crate::library;
+#[allow(unused_imports)]
+use crate::original::completed::NextDown;
 use crate::original::completed::{InterpolationMode, ReachSet2Options};
 use crate::original::{interpolation, topp2_ra, with_tried};
 use crate::random::Random;
@@ -54,9 +54,11 @@ fn original(case: &Case, slip: Slip) -> Option<Original> {
 fn original_recovery(case: &Case) -> Option<Original> {
     let q = Request::of(case);
     let rows: Vec<(f64, f64, f64)> = case.doubles(0).chunks_exact(3).map(|row| (row[0], row[1], row[2])).collect();
-    let options = ReachSet2Options { lp_feas_tol: q.feas_tol, a_cmp_abs_tol: q.a_cmp_abs_tol, a_cmp_rel_tol: q.a_cmp_rel_tol };
+    let options =
+        ReachSet2Options { lp_feas_tol: q.feas_tol, a_cmp_abs_tol: q.a_cmp_abs_tol, a_cmp_rel_tol: q.a_cmp_rel_tol };
     let (prev, curr) = ((q.prev.lower, q.prev.upper), (q.curr.lower, q.curr.upper));
-    let (answer, tried) = with_tried(|| topp2_ra::way_in(&rows, q.a_prev, prev, curr, q.prev.cap, q.curr.cap, &options));
+    let (answer, tried) =
+        with_tried(|| topp2_ra::way_in(&rows, q.a_prev, prev, curr, q.prev.cap, q.curr.cap, &options));
     answer.map(|(speed, normalized, raw)| Original { doubles: vec![speed, normalized, raw], tried })
 }
 
@@ -65,7 +67,12 @@ fn original_conversion(case: &Case) -> Option<Vec<f64>> {
     let answer = match case.entry {
         Entry::AToB => interpolation::a_to_b_topp2(&s, &a),
         Entry::SToT => interpolation::s_to_t_topp2(&s, &a, case.number(0)).map(|(_, times)| times),
-        Entry::TToSList => interpolation::t_to_s_topp2(&s, &a, &case.doubles(2), InterpolationMode::NonUniformTimeGrid(&case.doubles(3))),
+        Entry::TToSList => interpolation::t_to_s_topp2(
+            &s,
+            &a,
+            &case.doubles(2),
+            InterpolationMode::NonUniformTimeGrid(&case.doubles(3)),
+        ),
         _ => {
             let grid = InterpolationMode::UniformTimeGrid(case.number(0), case.number(1), case.with_final());
             interpolation::t_to_s_topp2(&s, &a, &case.doubles(2), grid)
@@ -82,7 +89,9 @@ fn agrees(case: &Case, ours: &Answer, original: &Option<Original>) -> bool {
     let in_output = |doubles: &[f64]| doubles.iter().enumerate().all(|(i, x)| alike(ours.pattern_at(i), *x));
     ours.number == 0
         && match case.entry {
-            Entry::Recover => doubles.iter().zip(ours.lent).all(|(x, pattern)| alike(pattern, *x)) && ours.lent[3] == *tried,
+            Entry::Recover => {
+                doubles.iter().zip(ours.lent).all(|(x, pattern)| alike(pattern, *x)) && ours.lent[3] == *tried
+            }
             Entry::AToB | Entry::SToT => in_output(doubles),
             _ => ours.lent[3] == doubles.len() as u64 && in_output(doubles),
         }
@@ -143,7 +152,8 @@ pub fn sides(case: &Case, slip: Slip) -> String {
     }
     let ours = library::call(case);
     let Compared { wanted, difference, with_original, .. } = compared(case, slip);
-    let mut lines = vec![format!("  library: {}", told(case, &ours)), format!("  document 01: {}", told(case, &wanted))];
+    let mut lines =
+        vec![format!("  library: {}", told(case, &ours)), format!("  document 01: {}", told(case, &wanted))];
     lines.extend(unlike_places(&ours, &wanted));
     if with_original {
         lines.push(match original(case, slip) {
@@ -152,7 +162,11 @@ pub fn sides(case: &Case, slip: Slip) -> String {
         });
     }
     if let (Some(Difference::InAnotherOrder), Some(turned)) = (difference, turned(case)) {
-        lines.push(format!("  library with the rows {}: {}", in_hex(&turned.doubles(0)), told(case, &library::call(&turned))));
+        lines.push(format!(
+            "  library with the rows {}: {}",
+            in_hex(&turned.doubles(0)),
+            told(case, &library::call(&turned))
+        ));
     }
     lines.join("\n")
 }
@@ -170,7 +184,11 @@ fn turned(case: &Case) -> Option<Case> {
         return None;
     }
     // the order follows from the case, so that it differs each time it is tried or never
-    let mut random = Random::new(rows.len() as u64, case.numbers[0], case.lists[0].iter().fold(0, |sum, b| sum << 1 ^ u64::from(*b)));
+    let mut random = Random::new(
+        rows.len() as u64,
+        case.numbers[0],
+        case.lists[0].iter().fold(0, |sum, b| sum << 1 ^ u64::from(*b)),
+    );
     let mut places: Vec<usize> = (0..rows.len()).collect();
     for _ in 0..random.place(4).min(MOST - rows.len()) {
         places.push(random.place(rows.len()));
@@ -202,9 +220,18 @@ const SHOWN: usize = 8;
 /// The first places of the output that differ.
 fn unlike_places(ours: &Answer, wanted: &Answer) -> Vec<String> {
     let before = Answer::refused(0, ours.out.len());
-    let at = |answer: &Answer, i| if answer.pattern_at(i) == before.pattern_at(i) { "untouched".to_string() } else { format!("{:016x}", answer.pattern_at(i)) };
+    let at = |answer: &Answer, i| {
+        if answer.pattern_at(i) == before.pattern_at(i) {
+            "untouched".to_string()
+        } else {
+            format!("{:016x}", answer.pattern_at(i))
+        }
+    };
     let unlike = (0..ours.out.len() / 8).filter(|i| ours.pattern_at(*i) != wanted.pattern_at(*i));
-    unlike.take(SHOWN).map(|i| format!("  output at {i}: library {}, document 01 {}", at(ours, i), at(wanted, i))).collect()
+    unlike
+        .take(SHOWN)
+        .map(|i| format!("  output at {i}: library {}, document 01 {}", at(ours, i), at(wanted, i)))
+        .collect()
 }
 
 fn in_hex(doubles: &[f64]) -> String {

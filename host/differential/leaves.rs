@@ -1,10 +1,10 @@
 //! The number leaves beside Rust's own functions, and the three that round beside "nearest" itself.
 
-#[allow(unused_imports)]
-use crate::original::completed::NextDown;
 use crate::case::{alike, pattern, Case, Entry};
 use crate::exact;
 use crate::library;
+#[allow(unused_imports)]
+use crate::original::completed::NextDown;
 use crate::original::hypot;
 use crate::random::{Random, SIGN};
 use crate::recovery_rules::{maximum, minimum};

@@ -14,18 +14,22 @@ extern "C" {
     fn malikoza_whole_part(x: u64) -> u64;
     fn malikoza_recover(
         a_prev: u64, prev_lower: u64, prev_upper: u64, prev_cap: u64, curr_lower: u64, curr_upper: u64, curr_cap: u64,
-        feas_tol: u64, a_cmp_abs_tol: u64, a_cmp_rel_tol: u64, rows: *const u8, rows_len: usize,
-        speed: *mut u64, worst_normalized: *mut u64, worst_raw: *mut u64, tried: *mut u64,
+        feas_tol: u64, a_cmp_abs_tol: u64, a_cmp_rel_tol: u64, rows: *const u8, rows_len: usize, speed: *mut u64,
+        worst_normalized: *mut u64, worst_raw: *mut u64, tried: *mut u64,
     ) -> u64;
     fn malikoza_a_to_b(s: *const u8, s_len: usize, a: *const u8, a_len: usize, out: *mut u8, out_len: usize) -> u64;
-    fn malikoza_s_to_t(s: *const u8, s_len: usize, a: *const u8, a_len: usize, t0: u64, out: *mut u8, out_len: usize) -> u64;
+    fn malikoza_s_to_t(
+        s: *const u8, s_len: usize, a: *const u8, a_len: usize, t0: u64, out: *mut u8, out_len: usize,
+    ) -> u64;
     fn malikoza_t_to_s_list(
-        s: *const u8, s_len: usize, a: *const u8, a_len: usize, t: *const u8, t_len: usize, samples: *const u8, samples_len: usize,
-        out: *mut u8, out_len: usize, before: *mut u64, inside: *mut u64, past: *mut u64, written: *mut u64,
+        s: *const u8, s_len: usize, a: *const u8, a_len: usize, t: *const u8, t_len: usize, samples: *const u8,
+        samples_len: usize, out: *mut u8, out_len: usize, before: *mut u64, inside: *mut u64, past: *mut u64,
+        written: *mut u64,
     ) -> u64;
     fn malikoza_t_to_s_grid(
-        s: *const u8, s_len: usize, a: *const u8, a_len: usize, t: *const u8, t_len: usize, t0: u64, dt: u64, with_final: u8,
-        out: *mut u8, out_len: usize, before: *mut u64, inside: *mut u64, past: *mut u64, written: *mut u64,
+        s: *const u8, s_len: usize, a: *const u8, a_len: usize, t: *const u8, t_len: usize, t0: u64, dt: u64,
+        with_final: u8, out: *mut u8, out_len: usize, before: *mut u64, inside: *mut u64, past: *mut u64,
+        written: *mut u64,
     ) -> u64;
 }
 

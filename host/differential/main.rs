@@ -23,8 +23,10 @@ mod judge;
 mod leaves;
 mod library;
 #[path = "../original/mod.rs"]
+#[rustfmt::skip] // the text as it is there
 mod original;
 mod profiles;
+mod progress;
 mod random;
 mod recovery_rules;
 mod requests;
@@ -55,10 +57,15 @@ fn list_slips() -> ! {
 
 /// Whether the comparison notices each slip.
 fn try_each_slip(plan: &Plan) -> ! {
+    eprintln!("{} slips, a minute each at most", Slip::ALL.len());
     let mut missed = 0;
     for (name, slip, _) in Slip::ALL {
         let tally = run::run(&Plan { slip, quiet: true, seconds: 60.0, ..plan.clone() });
-        println!("{name}: {} after {} compared", if tally.differ > 0 { "noticed" } else { "NOT NOTICED" }, tally.compared());
+        println!(
+            "{name}: {} after {} compared",
+            if tally.differ > 0 { "noticed" } else { "NOT NOTICED" },
+            tally.compared()
+        );
         missed += i32::from(tally.differ == 0);
     }
     std::process::exit(missed)
@@ -78,7 +85,9 @@ fn plan() -> Plan {
             ("threads", n) => plan.threads = number(n).max(1),
             ("broken", "list") => list_slips(),
             ("broken", "each") => plan.each_slip = true,
-            ("broken", name) => plan.slip = Slip::named(name).unwrap_or_else(|| fail("no such slip; broken=list names them")),
+            ("broken", name) => {
+                plan.slip = Slip::named(name).unwrap_or_else(|| fail("no such slip; broken=list names them"))
+            }
             _ => fail(&format!("{argument} is not understood")),
         }
     }

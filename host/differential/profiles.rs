@@ -200,7 +200,9 @@ fn samples(t: &[f64], random: &mut Random) -> Vec<f64> {
     let mut list: Vec<f64> = match random.below(4000) {
         0 | 1 => many_times(t, 65_536, random),
         2..=40 => many_times(t, 100 + random.place(2000), random),
-        _ => (0..1 + random.place(12)).map(|_| if random.one_in(20) { random.finite() } else { time(t, random) }).collect(),
+        _ => (0..1 + random.place(12))
+            .map(|_| if random.one_in(20) { random.finite() } else { time(t, random) })
+            .collect(),
     };
     list.retain(|x| x.is_finite());
     list.sort_by(f64::total_cmp);

@@ -60,7 +60,8 @@ impl Random {
     /// A pattern: any, an edge, a subnormal, a short significand, or one near 1 or near the largest.
     pub fn pattern(&mut self) -> u64 {
         let sign = self.next() & SIGN;
-        let edges = [0, 1, 2, (1 << 52) - 1, 1 << 52, (1 << 52) + 1, INFINITY - 1, INFINITY, NAN, INFINITY + 1, 1f64.to_bits()];
+        let edges =
+            [0, 1, 2, (1 << 52) - 1, 1 << 52, (1 << 52) + 1, INFINITY - 1, INFINITY, NAN, INFINITY + 1, 1f64.to_bits()];
         sign ^ match self.below(8) {
             0 => self.choose(&edges),
             1 => self.next() >> (12 + self.below(52)),
@@ -79,11 +80,27 @@ impl Random {
 
     pub fn finite(&mut self) -> f64 {
         let x = f64::from_bits(self.pattern());
-        if x.is_finite() { x } else { self.signed() }
+        if x.is_finite() {
+            x
+        } else {
+            self.signed()
+        }
     }
 
     pub fn edge(&mut self) -> f64 {
-        self.choose(&[0.0, -0.0, f64::NAN, f64::INFINITY, f64::NEG_INFINITY, f64::MAX, -f64::MAX, 5e-324, -5e-324, -1.0, 1e-310])
+        self.choose(&[
+            0.0,
+            -0.0,
+            f64::NAN,
+            f64::INFINITY,
+            f64::NEG_INFINITY,
+            f64::MAX,
+            -f64::MAX,
+            5e-324,
+            -5e-324,
+            -1.0,
+            1e-310,
+        ])
     }
 
     pub fn not_finite(&mut self) -> f64 {
@@ -94,7 +111,11 @@ impl Random {
 /// The place of a double in the order of all, both zeros at 0.
 fn rank(x: f64) -> i64 {
     let magnitude = (x.to_bits() & !SIGN) as i64;
-    if x.is_sign_negative() { -magnitude } else { magnitude }
+    if x.is_sign_negative() {
+        -magnitude
+    } else {
+        magnitude
+    }
 }
 
 /// The double so many steps above (below, for a negative number) a finite one, and no further than the largest.
@@ -102,5 +123,9 @@ pub fn stepped(x: f64, steps: i64) -> f64 {
     let most = rank(f64::MAX);
     let rank = (rank(x) + steps).clamp(-most, most);
     let magnitude = f64::from_bits(rank.unsigned_abs());
-    if rank < 0 { -magnitude } else { magnitude }
+    if rank < 0 {
+        -magnitude
+    } else {
+        magnitude
+    }
 }

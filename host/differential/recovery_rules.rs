@@ -1,8 +1,8 @@
 //! Recovery, straight from document 01's section of that name: number, figures, candidates tried, and the way the answer was found.
 
+use crate::case::{pattern, Answer, Case};
 #[allow(unused_imports)]
 use crate::original::completed::NextDown;
-use crate::case::{pattern, Answer, Case};
 use crate::original::hypot;
 use crate::slips::Slip;
 
@@ -64,11 +64,19 @@ fn is_tolerance(x: f64) -> bool {
 
 /// "a NaN yields the other operand; minus zero counts below plus zero"
 pub fn minimum(x: f64, y: f64) -> f64 {
-    if x.is_nan() || y < x || x == y && y.is_sign_negative() { y } else { x }
+    if x.is_nan() || y < x || x == y && y.is_sign_negative() {
+        y
+    } else {
+        x
+    }
 }
 
 pub fn maximum(x: f64, y: f64) -> f64 {
-    if x.is_nan() || y > x || x == y && y.is_sign_positive() { y } else { x }
+    if x.is_nan() || y > x || x == y && y.is_sign_positive() {
+        y
+    } else {
+        x
+    }
 }
 
 /// "equal if x = y, or if |x - y| is at most the maximum of abs and rel × max(|x|, |y|), each operation rounded"
@@ -108,7 +116,8 @@ impl Row {
     /// Refusal 5: "a number not finite; norm not finite; norm not zero and 1/norm or raw_tol not finite".
     fn is_unfit(&self) -> bool {
         let numbers = [self.coef_curr, self.coef_prev, self.rhs, self.norm];
-        numbers.iter().any(|x| !x.is_finite()) || self.norm != 0.0 && !(self.inv.is_finite() && self.raw_tol.is_finite())
+        numbers.iter().any(|x| !x.is_finite())
+            || self.norm != 0.0 && !(self.inv.is_finite() && self.raw_tol.is_finite())
     }
 
     /// Refusal 6: "norm zero and rhs < 0".
@@ -173,8 +182,10 @@ impl Search<'_> {
         let (mut worst_normalized, mut worst_raw) = (0.0, 0.0);
         for row in self.rows.iter().filter(|row| row.norm != 0.0) {
             let [normalized, raw, raw_by_norm] = row.residuals(x, self.q.a_prev);
-            let [first, second, third] = [normalized <= self.q.feas_tol, raw <= row.raw_tol, raw_by_norm <= self.q.feas_tol];
-            let fits = if self.slip == Slip::FirstResidual { first || second || third } else { first && second && third };
+            let [first, second, third] =
+                [normalized <= self.q.feas_tol, raw <= row.raw_tol, raw_by_norm <= self.q.feas_tol];
+            let fits =
+                if self.slip == Slip::FirstResidual { first || second || third } else { first && second && third };
             if !fits || [normalized, raw, raw_by_norm].iter().any(|x| !x.is_finite()) {
                 return None;
             }
@@ -187,7 +198,12 @@ impl Search<'_> {
     /// The projected ends, or refusal 7: "r of any row not finite", or 8: "a row with c zero and r < 0, or a projected end not finite, or low > high".
     fn projected(&self) -> Result<(f64, f64), u64> {
         let (mut low, mut high) = (self.lower, self.upper);
-        let scaled: Vec<(f64, f64)> = self.rows.iter().filter(|row| row.norm != 0.0).map(|row| (row.coef_curr * row.inv, row.r(self.q))).collect();
+        let scaled: Vec<(f64, f64)> = self
+            .rows
+            .iter()
+            .filter(|row| row.norm != 0.0)
+            .map(|row| (row.coef_curr * row.inv, row.r(self.q)))
+            .collect();
         if scaled.iter().any(|(_, r)| !r.is_finite()) {
             return Err(7);
         }
@@ -207,7 +223,11 @@ impl Search<'_> {
 
     /// "the middle, 0.5·low + 0.5·high"
     fn between(&self, low: f64, high: f64) -> f64 {
-        if self.slip == Slip::AverageOfSum { 0.5 * (low + high) } else { 0.5 * low + 0.5 * high }
+        if self.slip == Slip::AverageOfSum {
+            0.5 * (low + high)
+        } else {
+            0.5 * low + 0.5 * high
+        }
     }
 
     /// "the projected upper end and up to four next-down doubles are tried, stopping below the projected lower end"
@@ -276,7 +296,11 @@ pub fn recovered(q: &Request, numbers: &[f64], slip: Slip) -> Result<Recovered, 
         return Err(2);
     }
     let (prev_lower, prev_upper) = bounds(&q.prev);
-    if !prev_lower.is_finite() || !prev_upper.is_finite() || less_within(q, q.a_prev, prev_lower) || less_within(q, prev_upper, q.a_prev) {
+    if !prev_lower.is_finite()
+        || !prev_upper.is_finite()
+        || less_within(q, q.a_prev, prev_lower)
+        || less_within(q, prev_upper, q.a_prev)
+    {
         return Err(3);
     }
     let (lower, upper) = bounds(&q.curr);

@@ -97,8 +97,10 @@ fn structured(random: &mut Random) -> Draft {
     numbers[PREV_UPPER] = 4.0 * scale;
     numbers[PREV_CAP] = random.choose(&[9.0 * scale, 4.0 * scale, f64::INFINITY, 3.0 * scale]);
     let within = random.unit() * cap;
-    numbers[CURR_LOWER] = random.choose(&[0.0, 0.0, -0.0, -scale, f64::NEG_INFINITY, within, within, cap, stepped(cap, -3)]);
-    (numbers[CURR_UPPER], numbers[CURR_CAP]) = random.choose(&[(cap, 9.0 * scale), (4.0 * cap, cap), (cap, f64::INFINITY), (cap, cap)]);
+    numbers[CURR_LOWER] =
+        random.choose(&[0.0, 0.0, -0.0, -scale, f64::NEG_INFINITY, within, within, cap, stepped(cap, -3)]);
+    (numbers[CURR_UPPER], numbers[CURR_CAP]) =
+        random.choose(&[(cap, 9.0 * scale), (4.0 * cap, cap), (cap, f64::INFINITY), (cap, cap)]);
     for place in TOLERANCES {
         numbers[place] = tolerance(random);
     }
@@ -214,7 +216,10 @@ fn damage(draft: &mut Draft, number: u64, random: &mut Random) {
     let at = if draft.rows.is_empty() { 0 } else { random.place(draft.rows.len()) };
     match number {
         2 => match random.below(4) {
-            0 => n[random.choose(&TOLERANCES)] = random.choose(&[-5e-324, -1.0, f64::NAN, f64::INFINITY, f64::NEG_INFINITY]),
+            0 => {
+                n[random.choose(&TOLERANCES)] =
+                    random.choose(&[-5e-324, -1.0, f64::NAN, f64::INFINITY, f64::NEG_INFINITY])
+            }
             1 => n[random.choose(&[A_PREV, PREV_LOWER, PREV_UPPER])] = random.not_finite(),
             _ => n[random.choose(&[CURR_LOWER, CURR_UPPER, PREV_CAP, CURR_CAP])] = f64::NAN,
         },
@@ -243,10 +248,14 @@ fn damage(draft: &mut Draft, number: u64, random: &mut Random) {
             draft.rows.insert(at, unfit);
         }
         6 => draft.rows.insert(at, [0.0, -0.0, random.choose(&[-1.0, -5e-324])]),
-        7 => draft.rows.insert(at, random.choose(&[[1e-10, 0.0, f64::MAX], [1e-10, 0.0, -f64::MAX], [1e-200, 1e-200, 1e200]])),
+        7 => draft
+            .rows
+            .insert(at, random.choose(&[[1e-10, 0.0, f64::MAX], [1e-10, 0.0, -f64::MAX], [1e-200, 1e-200, 1e200]])),
         8 => {
             let cap = draft.upper();
-            draft.rows.insert(at, random.choose(&[[0.0, 1.0, -1.0], [-1.0, 0.0, -2.0 * cap - 1.0], [1.0, 0.0, -cap - 1.0]]));
+            draft
+                .rows
+                .insert(at, random.choose(&[[0.0, 1.0, -1.0], [-1.0, 0.0, -2.0 * cap - 1.0], [1.0, 0.0, -cap - 1.0]]));
         }
         // two rows that leave one point, or a hair more, or less
         _ => {

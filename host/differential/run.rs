@@ -5,12 +5,13 @@ use crate::fixed;
 use crate::judge;
 use crate::leaves;
 use crate::profiles;
+use crate::progress::{End, Progress};
 use crate::random::Random;
 use crate::requests;
 use crate::shrink;
 use crate::slips::Slip;
 use crate::tally::Tally;
-use std::sync::atomic::{AtomicU64, Ordering};
+use std::sync::atomic::Ordering;
 use std::time::Instant;
 
 /// A run stops after so many differences.
@@ -36,7 +37,16 @@ pub struct Plan {
 
 impl Default for Plan {
     fn default() -> Plan {
-        Plan { seconds: 600.0, counts: None, fixed: true, seed: 20_261_115, threads: 1, slip: Slip::None, each_slip: false, quiet: false }
+        Plan {
+            seconds: 600.0,
+            counts: None,
+            fixed: true,
+            seed: 20_261_115,
+            threads: 1,
+            slip: Slip::None,
+            each_slip: false,
+            quiet: false,
+        }
     }
 }
 
@@ -46,19 +56,38 @@ struct Part {
     block: u64,
     /// Its share of a run's time.
     share: f64,
+    /// Nanoseconds that a case took on one machine: what a run by counts is expected to take, and how far it has come.
+    cost: u64,
 }
 
-const PARTS: [Part; 3] = [Part { block: 8000, share: 0.25 }, Part { block: 1000, share: 0.4 }, Part { block: 400, share: 0.35 }];
+const PARTS: [Part; 3] = [
+    Part { block: 8000, share: 0.25, cost: 1_300 },
+    Part { block: 1000, share: 0.4, cost: 4_000 },
+    Part { block: 400, share: 0.35, cost: 10_000 },
+];
+
+/// Nanoseconds that the inputs which are the same in every run took there.
+const FIXED_COST: u64 = 2_500_000_000;
+
+/// When the run ends.
+fn end(plan: &Plan) -> End {
+    let Some(counts) = plan.counts else { return End::Time(plan.seconds) };
+    let generated: u64 = counts.iter().zip(&PARTS).map(|(count, part)| count * part.cost).sum();
+    End::Work(generated + if plan.fixed { FIXED_COST } else { 0 }, plan.threads)
+}
 
 pub fn run(plan: &Plan) -> Tally {
-    let found = AtomicU64::new(0);
+    let progress = Progress::new(end(plan));
     let mut total = Tally::default();
     std::thread::scope(|scope| {
         let start = |thread| {
-            let worker = Worker { plan, thread, found: &found, tally: Tally::default(), began: Instant::now() };
+            let worker = Worker { plan, thread, progress: &progress, tally: Tally::default(), began: Instant::now() };
             std::thread::Builder::new().stack_size(STACK).spawn_scoped(scope, move || worker.work()).expect("a thread")
         };
         let workers: Vec<_> = (0..plan.threads).map(start).collect();
+        if !plan.quiet {
+            progress.tell_until(|| workers.iter().all(|worker| worker.is_finished()));
+        }
         for worker in workers {
             total.add(&worker.join().expect("a worker that ends"));
         }
@@ -69,15 +98,14 @@ pub fn run(plan: &Plan) -> Tally {
 struct Worker<'a> {
     plan: &'a Plan,
     thread: u64,
-    /// Differences found so far, by all threads.
-    found: &'a AtomicU64,
+    progress: &'a Progress,
     tally: Tally,
     began: Instant,
 }
 
 impl Worker<'_> {
     fn enough_found(&self) -> bool {
-        self.found.load(Ordering::Relaxed) >= ENOUGH
+        self.progress.differ.load(Ordering::Relaxed) >= ENOUGH
     }
 
     fn work(mut self) -> Tally {
@@ -164,6 +192,7 @@ impl Worker<'_> {
 
     fn compare_leaf(&mut self, leaf: Entry, patterns: [u64; 3]) {
         self.tally.leaf(leaf);
+        self.progress.add(PARTS[0].cost);
         if !leaves::is_right(leaf, patterns, self.plan.slip) {
             self.report(&leaves::case(leaf, patterns));
         }
@@ -172,6 +201,7 @@ impl Worker<'_> {
     fn compare(&mut self, case: &Case) {
         let compared = judge::compared(case, self.plan.slip);
         self.tally.call(case.entry, &compared);
+        self.progress.add(PARTS[if case.entry == Entry::Recover { 1 } else { 2 }].cost);
         if compared.difference.is_some() {
             self.report(case);
         }
@@ -180,7 +210,7 @@ impl Worker<'_> {
     /// Counts a difference, and prints the smallest case that shrinking leads to.
     fn report(&mut self, case: &Case) {
         self.tally.differ += 1;
-        let found_before = self.found.fetch_add(1, Ordering::Relaxed);
+        let found_before = self.progress.differ.fetch_add(1, Ordering::Relaxed);
         if found_before >= ENOUGH || self.plan.quiet {
             return;
         }

@@ -55,9 +55,15 @@ impl<F: Fn(&Case) -> bool> Shrinker<F> {
 
     /// Less output, for a grid also with its step doubled or its first half left out.
     fn with_less_room(&self, case: &Case) -> Option<Case> {
-        for room in [0, case.room / 16 * 8, case.room / 16 * 8 + 8, case.room.saturating_sub(8), case.room.saturating_sub(1)] {
+        for room in
+            [0, case.room / 16 * 8, case.room / 16 * 8 + 8, case.room.saturating_sub(8), case.room.saturating_sub(1)]
+        {
             let smaller = Case { room, ..case.clone() };
-            let candidates = if case.entry == Entry::TToSGrid { vec![coarser(&smaller), later(&smaller), smaller] } else { vec![smaller] };
+            let candidates = if case.entry == Entry::TToSGrid {
+                vec![coarser(&smaller), later(&smaller), smaller]
+            } else {
+                vec![smaller]
+            };
             if let Some(found) = candidates.into_iter().filter(|c| c.room < case.room).find(|c| self.still_differs(c)) {
                 return Some(found);
             }
@@ -153,7 +159,9 @@ fn groups(case: &Case) -> Vec<Group> {
             let stations = Group { lists: vec![0, 1, 2], width: 8, with_room: false };
             vec![stations, alone(0, 8), alone(1, 8), alone(2, 8)]
         }
-        Entry::AToB | Entry::SToT => vec![Group { lists: vec![0, 1], width: 8, with_room: true }, alone(0, 8), alone(1, 8)],
+        Entry::AToB | Entry::SToT => {
+            vec![Group { lists: vec![0, 1], width: 8, with_room: true }, alone(0, 8), alone(1, 8)]
+        }
         _ => vec![],
     }
 }

@@ -75,18 +75,23 @@ impl Tally {
 
     /// The counts, and a last line "N compared, M differ".
     pub fn print(&self) {
-        let leaves: Vec<String> = Entry::LEAVES.iter().zip(self.leaves).map(|(leaf, n)| format!("{} {n}", short_name(*leaf))).collect();
+        let leaves: Vec<String> =
+            Entry::LEAVES.iter().zip(self.leaves).map(|(leaf, n)| format!("{} {n}", short_name(*leaf))).collect();
         println!("leaves: {}", leaves.join(", "));
         for entry in [Entry::Recover].into_iter().chain(Entry::CONVERSIONS) {
             let numbers = &self.numbers[line(entry)];
-            let refused: Vec<String> = (1..NUMBERS).filter(|i| numbers[*i] > 0).map(|i| format!("{i}: {}", numbers[i])).collect();
+            let refused: Vec<String> =
+                (1..NUMBERS).filter(|i| numbers[*i] > 0).map(|i| format!("{i}: {}", numbers[i])).collect();
             println!("{}: answered {}; refused with {}", short_name(entry), numbers[0], refused.join(", "));
         }
         let [cap, neighbours @ .., middle, halvings] = self.ways;
         println!("recovered by cap {cap}, neighbours 0 to 4 {neighbours:?}, middle {middle}, halvings {halvings}");
         let [before, inside, past, finals] = self.sampled;
         println!("times before {before}, inside {inside}, past {past}; finals added {finals}");
-        println!("calls beside the original {}; rows in another order and number {}", self.with_original, self.in_another_order);
+        println!(
+            "calls beside the original {}; rows in another order and number {}",
+            self.with_original, self.in_another_order
+        );
         println!("{} compared, {} differ", self.compared(), self.differ);
     }
 }

@@ -9,7 +9,11 @@ const STATIONS: usize = 4096;
 const SAMPLES: usize = 65_536;
 
 fn refuse(number: u64, when: bool) -> Result<(), u64> {
-    if when { Err(number) } else { Ok(()) }
+    if when {
+        Err(number)
+    } else {
+        Ok(())
+    }
 }
 
 fn all_finite(list: &[f64]) -> bool {

@@ -1,7 +1,8 @@
-//! Tells cargo where libmalikoza.a is: in target/staticlib of this repository, or in the folder whose full path MALIKOZA_LIB_DIR is.
+//! Tells cargo where libmalikoza.a is: in target/staticlib of this repository, or in the folder that
+//! `MALIKOZA_LIB_DIR` names by its full path.
 
-use std::env;
 use std::path::PathBuf;
+use std::{env, process};
 
 fn folder() -> PathBuf {
     match env::var_os("MALIKOZA_LIB_DIR") {
@@ -17,6 +18,9 @@ fn main() {
     println!("cargo:rerun-if-changed={}", archive.display());
     println!("cargo:rustc-link-search=native={}", folder.display());
     if !archive.is_file() {
-        println!("cargo:warning=no {}: `rt staticlib malikoza` writes it; MALIKOZA_LIB_DIR may name another folder", archive.display());
+        eprintln!("There is no {}.", archive.display());
+        eprintln!("Make it with `rt staticlib malikoza` at the top of the repository;");
+        eprintln!("or set MALIKOZA_LIB_DIR to the full path of the folder that it is in.");
+        process::exit(1);
     }
 }

@@ -129,7 +129,8 @@ impl Kept {
             };
             let answered: Vec<String> = ways(entry).iter().map(|way| told(way)).collect();
             let refused: Vec<String> = numbers(entry).iter().map(|number| told(&number.to_string())).collect();
-            let refused = if refused.is_empty() { String::new() } else { format!("; refused with {}", refused.join(", ")) };
+            let refused =
+                if refused.is_empty() { String::new() } else { format!("; refused with {}", refused.join(", ")) };
             println!("{}: answered {}{refused}", entry.names().0, answered.join("; "));
         }
         println!("{} cases, {} of them beside the original", self.cases.len(), self.with_original);

@@ -18,12 +18,27 @@ pub fn numbers(entry: Entry) -> &'static [u64] {
 /// The ways of answering of each entry.
 pub fn ways(entry: Entry) -> &'static [&'static str] {
     match entry {
-        Entry::Recover => &["cap", "neighbour 0", "neighbour 1", "neighbour 2", "neighbour 3", "neighbour 4", "middle", "halvings"],
+        Entry::Recover => {
+            &["cap", "neighbour 0", "neighbour 1", "neighbour 2", "neighbour 3", "neighbour 4", "middle", "halvings"]
+        }
         Entry::AToB => &["all finite", "not all finite"],
         Entry::SToT => &["times"],
-        Entry::TToSList => &["before", "inside", "past", "before and inside", "before and past", "inside and past", "before, inside and past"],
+        Entry::TToSList => &[
+            "before",
+            "inside",
+            "past",
+            "before and inside",
+            "before and past",
+            "inside and past",
+            "before, inside and past",
+        ],
         Entry::TToSGrid => &[
-            "samples, no final asked", "samples and final", "samples, final not due", "no samples, no final asked", "final alone", "no samples, final not due",
+            "samples, no final asked",
+            "samples and final",
+            "samples, final not due",
+            "no samples, no final asked",
+            "final alone",
+            "no samples, final not due",
         ],
         _ => &["special", "common"],
     }

@@ -22,6 +22,7 @@ mod leaves;
 #[path = "../differential/library.rs"]
 mod library;
 #[path = "../original/mod.rs"]
+#[rustfmt::skip] // the text as it is there
 mod original;
 #[path = "../differential/profiles.rs"]
 mod profiles;

@@ -9,18 +9,22 @@ extern "C" {
     fn malikoza_hypot(x: u64, y: u64) -> u64;
     fn malikoza_recover(
         a_prev: u64, prev_lower: u64, prev_upper: u64, prev_cap: u64, curr_lower: u64, curr_upper: u64, curr_cap: u64,
-        feas_tol: u64, a_cmp_abs_tol: u64, a_cmp_rel_tol: u64, rows: *const u8, rows_len: usize,
-        speed: *mut u64, worst_normalized: *mut u64, worst_raw: *mut u64, tried: *mut u64,
+        feas_tol: u64, a_cmp_abs_tol: u64, a_cmp_rel_tol: u64, rows: *const u8, rows_len: usize, speed: *mut u64,
+        worst_normalized: *mut u64, worst_raw: *mut u64, tried: *mut u64,
     ) -> u64;
     fn malikoza_a_to_b(s: *const u8, s_len: usize, a: *const u8, a_len: usize, out: *mut u8, out_len: usize) -> u64;
-    fn malikoza_s_to_t(s: *const u8, s_len: usize, a: *const u8, a_len: usize, t0: u64, out: *mut u8, out_len: usize) -> u64;
+    fn malikoza_s_to_t(
+        s: *const u8, s_len: usize, a: *const u8, a_len: usize, t0: u64, out: *mut u8, out_len: usize,
+    ) -> u64;
     fn malikoza_t_to_s_list(
-        s: *const u8, s_len: usize, a: *const u8, a_len: usize, t: *const u8, t_len: usize, samples: *const u8, samples_len: usize,
-        out: *mut u8, out_len: usize, before: *mut u64, inside: *mut u64, past: *mut u64, written: *mut u64,
+        s: *const u8, s_len: usize, a: *const u8, a_len: usize, t: *const u8, t_len: usize, samples: *const u8,
+        samples_len: usize, out: *mut u8, out_len: usize, before: *mut u64, inside: *mut u64, past: *mut u64,
+        written: *mut u64,
     ) -> u64;
     fn malikoza_t_to_s_grid(
-        s: *const u8, s_len: usize, a: *const u8, a_len: usize, t: *const u8, t_len: usize, t0: u64, dt: u64, with_final: u8,
-        out: *mut u8, out_len: usize, before: *mut u64, inside: *mut u64, past: *mut u64, written: *mut u64,
+        s: *const u8, s_len: usize, a: *const u8, a_len: usize, t: *const u8, t_len: usize, t0: u64, dt: u64,
+        with_final: u8, out: *mut u8, out_len: usize, before: *mut u64, inside: *mut u64, past: *mut u64,
+        written: *mut u64,
     ) -> u64;
 }
 
@@ -49,7 +53,9 @@ pub fn list(g: &mut Given) {
     let ((out, out_len), mut c) = (room(&mut g.out), [0; 4]);
     let [before, inside, past, written] = &mut c;
     // SAFETY: as above.
-    let number = unsafe { malikoza_t_to_s_list(s, s_len, a, a_len, t, t_len, x, x_len, out, out_len, before, inside, past, written) };
+    let number = unsafe {
+        malikoza_t_to_s_list(s, s_len, a, a_len, t, t_len, x, x_len, out, out_len, before, inside, past, written)
+    };
     assert_eq!((number, c[3]), (0, g.samples.len() as u64));
 }
 
@@ -59,7 +65,25 @@ pub fn grid(g: &mut Given) {
     let ((out, out_len), mut c) = (room(&mut g.out), [0; 4]);
     let [before, inside, past, written] = &mut c;
     // SAFETY: as above.
-    let number = unsafe { malikoza_t_to_s_grid(s, s_len, a, a_len, t, t_len, 0, g.step.to_bits(), 1, out, out_len, before, inside, past, written) };
+    let number = unsafe {
+        malikoza_t_to_s_grid(
+            s,
+            s_len,
+            a,
+            a_len,
+            t,
+            t_len,
+            0,
+            g.step.to_bits(),
+            1,
+            out,
+            out_len,
+            before,
+            inside,
+            past,
+            written,
+        )
+    };
     assert_eq!((number, c[3]), (0, g.samples.len() as u64 + 1));
 }
 
@@ -69,7 +93,11 @@ pub fn recover(rows: &[f64]) -> u64 {
     let ((list, len), mut c) = (bytes(rows), [0; 4]);
     let [speed, normalized, raw, tried] = &mut c;
     // SAFETY: as above.
-    let number = unsafe { malikoza_recover(one, zero, four, nine, zero, four, three, zero, zero, zero, list, len, speed, normalized, raw, tried) };
+    let number = unsafe {
+        malikoza_recover(
+            one, zero, four, nine, zero, four, three, zero, zero, zero, list, len, speed, normalized, raw, tried,
+        )
+    };
     assert_eq!(number, 0);
     c[3]
 }

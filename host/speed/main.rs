@@ -37,7 +37,8 @@ const SHARES: [u64; 3] = [4, 2, 1];
 const COUNTED: &str = "--counted";
 
 /// The C library's setting for a run under the counter: no length is enough for a repeated instruction.
-const PLAIN: (&str, &str) = ("GLIBC_TUNABLES", "glibc.cpu.x86_rep_stosb_threshold=100000000:glibc.cpu.x86_rep_movsb_threshold=100000000");
+const PLAIN: (&str, &str) =
+    ("GLIBC_TUNABLES", "glibc.cpu.x86_rep_stosb_threshold=100000000:glibc.cpu.x86_rep_movsb_threshold=100000000");
 
 /// Instructions of a run of this program with the given words.
 fn counted(words: &[String]) -> u64 {
@@ -55,10 +56,18 @@ fn counted(words: &[String]) -> u64 {
             command
         }
     };
-    let output = command.env(PLAIN.0, PLAIN.1).arg(this).arg(COUNTED).args(words).output().expect("a counter: valgrind, or the command in COUNTER");
+    let output = command
+        .env(PLAIN.0, PLAIN.1)
+        .arg(this)
+        .arg(COUNTED)
+        .args(words)
+        .output()
+        .expect("a counter: valgrind, or the command in COUNTER");
     let told = String::from_utf8_lossy(&output.stderr).into_owned();
     let line = told.lines().find(|line| line.contains("Collected") || line.starts_with("instructions"));
-    line.and_then(|line| line.rsplit(' ').next()).and_then(|n| n.parse().ok()).unwrap_or_else(|| panic!("no count in: {told}"))
+    line.and_then(|line| line.rsplit(' ').next())
+        .and_then(|n| n.parse().ok())
+        .unwrap_or_else(|| panic!("no count in: {told}"))
 }
 
 fn words(work: &Work, side: Side, share: u64, turns: u64) -> Vec<String> {
@@ -89,7 +98,11 @@ fn time(work: &Work, side: Side) -> f64 {
 fn line(work: &Work) {
     let theirs = instructions(work, Side::Original, 1);
     let ours: Vec<f64> = SHARES.iter().map(|share| instructions(work, Side::Library, *share)).collect();
-    let times = if std::env::var("COUNTER").is_ok() { String::from("-") } else { format!("{:.2}", time(work, Side::Library) / time(work, Side::Original)) };
+    let times = if std::env::var("COUNTER").is_ok() {
+        String::from("-")
+    } else {
+        format!("{:.2}", time(work, Side::Library) / time(work, Side::Original))
+    };
     println!(
         "{:<50} {theirs:>9.1} {:>9.1} {:>6.2} {times:>6}   {:>9.1} {:>9.1} {:>9.1}",
         format!("{}, for each {}", work.name, work.unit),
@@ -103,7 +116,8 @@ fn line(work: &Work) {
 
 /// One operation on one side, so many times: what the counter runs.
 fn run(words: &[String]) {
-    let work = Work::ALL.iter().chain([&Work::LOOP]).find(|work| work.name == words[0]).expect("the name of an operation");
+    let work =
+        Work::ALL.iter().chain([&Work::LOOP]).find(|work| work.name == words[0]).expect("the name of an operation");
     let share = words[2].parse().expect("a share");
     for _ in 0..words[3].parse().expect("a number of turns") {
         work.turn(Side::named(&words[1]), share);
@@ -111,7 +125,10 @@ fn run(words: &[String]) {
 }
 
 fn table(chosen: &[&Work]) {
-    println!("{:<50} {:>9} {:>9} {:>6} {:>6}   library at a quarter, half, whole", "instructions", "original", "library", "ratio", "time");
+    println!(
+        "{:<50} {:>9} {:>9} {:>6} {:>6}   library at a quarter, half, whole",
+        "instructions", "original", "library", "ratio", "time"
+    );
     for work in chosen {
         line(work);
     }

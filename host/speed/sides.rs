@@ -96,14 +96,24 @@ fn s_to_t(side: Side, n: usize) {
 
 fn list(side: Side, n: usize) {
     with_given(n * STATIONS / SAMPLES, n, |g| match side {
-        Side::Original => drop(black_box(interpolation::t_to_s_topp2(&g.s, &g.a, &g.t, InterpolationMode::NonUniformTimeGrid(&g.samples)))),
+        Side::Original => drop(black_box(interpolation::t_to_s_topp2(
+            &g.s,
+            &g.a,
+            &g.t,
+            InterpolationMode::NonUniformTimeGrid(&g.samples),
+        ))),
         Side::Library => library::list(g),
     });
 }
 
 fn grid(side: Side, n: usize) {
     with_given(n * STATIONS / SAMPLES, n, |g| match side {
-        Side::Original => drop(black_box(interpolation::t_to_s_topp2(&g.s, &g.a, &g.t, InterpolationMode::UniformTimeGrid(0.0, g.step, true)))),
+        Side::Original => drop(black_box(interpolation::t_to_s_topp2(
+            &g.s,
+            &g.a,
+            &g.t,
+            InterpolationMode::UniformTimeGrid(0.0, g.step, true),
+        ))),
         Side::Library => library::grid(g),
     });
 }

@@ -1,7 +1,7 @@
-//! Times a strap, says where the knife is at each tenth of a second, and finds the speed for a tight corner: `host/run strap`.
-//! host/strap_c does the same in C, and prints the same.
+//! Times a strap, says where the knife is at each tenth of a second, and finds the speed for a corner: `host/run strap`.
+//! host/strap_c does the same in C, and prints the same. docs/RULES.md works some of its figures out by hand.
 
-use malikoza::{owned, recover, sqrt, Interval, Refusal, Request};
+use malikoza::{owned, recover, sqrt, Refusal, Request, Station};
 
 /// Where the cut file sets a speed, in mm along the strap.
 const STATIONS: [f64; 12] = [0.0, 5.0, 12.5, 25.0, 42.5, 60.0, 72.5, 80.0, 87.5, 100.0, 117.5, 137.5];
@@ -29,29 +29,54 @@ fn print_places(a: &[f64], t: &[f64]) -> Result<(), Refusal> {
     Ok(())
 }
 
-/// The knife comes at 40 mm/s to a corner 7.5 mm on. Each row says: coef_curr times the squared speed in the corner, plus coef_prev times the squared speed
-/// before it, is at most rhs.
-fn print_corner(most: f64) {
-    let request = Request {
-        a_prev: 40.0 * 40.0,
-        prev_backward: Interval { lower: 0.0, upper: 6400.0 },
-        curr_backward: Interval { lower: 0.0, upper: 6400.0 },
-        prev_path_max: 6400.0,
-        curr_path_max: 30.0 * 30.0,
-        feas_tol: 1e-9,
-        a_cmp_abs_tol: 1e-9,
-        a_cmp_rel_tol: 1e-9,
-    };
-    let rows = [
-        [-1.0, 0.0, -(20.0 * 20.0)],    // the hot knife must not be slower than 20 mm/s: the web would melt to a bead
-        [1.0, 0.0, most * most],        // the arm must not be faster than this, or it shakes
-        [-1.0, 1.0, 2.0 * 80.0 * 7.5],  // it brakes by at most 80 mm/s each second, over 7.5 mm
-    ];
-    println!("\nA corner where the knife must keep 20 mm/s and the arm allows {most} mm/s:");
-    match recover(&request, &rows) {
-        Ok(found) => println!("  take it at {:.2} mm/s ({} speeds tried)", sqrt(found.speed), found.tried),
-        Err(refusal) => println!("  no speed: refusal {}", refusal.number()),
+/// The knife comes at 40 mm/s to a corner 7.5 mm on, whose cap is 30 mm/s.
+const REQUEST: Request = Request {
+    a_prev: 40.0 * 40.0,
+    prev: Station { lower: 0.0, upper: 6400.0, cap: 6400.0 },
+    curr: Station { lower: 0.0, upper: 6400.0, cap: 30.0 * 30.0 },
+    feas_tol: 1e-9,
+    a_cmp_abs_tol: 1e-9,
+    a_cmp_rel_tol: 1e-9,
+};
+
+/// What the number of candidates tried tells.
+fn found_by(tried: u64) -> &'static str {
+    match tried {
+        1 => "the cap meets every row",
+        2 => "the cap does not meet every row, but the most that the rows leave does",
+        3..=6 => "neither the cap nor the most that the rows leave meets every row, but a double just below does",
+        _ => "found by halving",
     }
+}
+
+fn print_corner(most: f64) {
+    let rows = [
+        ([-1.0, 0.0, -(20.0 * 20.0)], "at least 20 mm/s, or the web melts to a bead"),
+        ([1.0, 0.0, most * most], "at most what the arm allows, or it shakes"),
+        ([-1.0, 1.0, 2.0 * 80.0 * 7.5], "it brakes by at most 80 mm/s each second, over 7.5 mm"),
+    ];
+    println!("\nThe arm allows {most} mm/s:\n");
+    println!(" coef_curr coef_prev       rhs");
+    for ([coef_curr, coef_prev, rhs], why) in rows {
+        println!("{coef_curr:10}{coef_prev:10}{rhs:10}   {why}");
+    }
+    match recover(&REQUEST, &rows.map(|(row, _)| row)) {
+        Ok(found) => println!(
+            "\n  take it at {:.2} mm/s: {} (speeds tried: {})",
+            sqrt(found.speed),
+            found_by(found.tried),
+            found.tried
+        ),
+        Err(refusal) => println!("\n  no speed, {refusal}"),
+    }
+}
+
+fn print_corners() {
+    println!("\nThe knife comes at 40 mm/s, a squared speed of 1600, to a corner whose cap is 30 mm/s, squared 900.");
+    println!("Each row says of the squared speed x in the corner: coef_curr * x + coef_prev * 1600 is at most rhs.");
+    print_corner(35.0);
+    print_corner(25.0);
+    print_corner(15.0);
 }
 
 fn main() -> Result<(), Refusal> {
@@ -59,7 +84,6 @@ fn main() -> Result<(), Refusal> {
     let t = owned::s_to_t(&STATIONS, &a, 0.0)?;
     print_times(&a, &t);
     print_places(&a, &t)?;
-    print_corner(25.0);
-    print_corner(15.0);
+    print_corners();
     Ok(())
 }

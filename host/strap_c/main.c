@@ -1,12 +1,11 @@
-/* Times a strap, says where the knife is at each tenth of a second, and finds the speed for a tight corner: host/run strap_c.
- * host/strap does the same in Rust, and prints the same. */
+/* Times a strap, says where the knife is at each tenth of a second, and finds the speed for a corner: host/run strap_c.
+ * host/strap does the same in Rust, and prints the same. docs/RULES.md works some of its figures out by hand. */
 #include <stdio.h>
 #include <stdlib.h>
-#include <string.h>
 
 #include "malikoza.h"
 
-enum { STATIONS = 12, PLACES = 64 };
+enum { STATIONS = 12, PLACES = 64, ROWS = 3 };
 
 /* Where the cut file sets a speed, in mm along the strap. */
 static const double s[STATIONS] = {0, 5, 12.5, 25, 42.5, 60, 72.5, 80, 87.5, 100, 117.5, 137.5};
@@ -14,69 +13,92 @@ static const double s[STATIONS] = {0, 5, 12.5, 25, 42.5, 60, 72.5, 80, 87.5, 100
 /* The speeds there in mm/s: a start from rest, and a corner at 80 mm. */
 static const double speeds[STATIONS] = {0, 20, 40, 60, 80, 60, 40, 20, 40, 60, 80, 80};
 
-static uint64_t pattern(double x) {
-    uint64_t p;
-    memcpy(&p, &x, sizeof p);
-    return p;
-}
-
-static double number(uint64_t p) {
-    double x;
-    memcpy(&x, &p, sizeof x);
-    return x;
-}
-
 /* An array of doubles is a byte list as it stands. */
 #define LIST(array) (const uint8_t *)(array), sizeof(array)
 #define ROOM(array) (uint8_t *)(array), sizeof(array)
 
 static void must(uint64_t refusal) {
     if (refusal != 0) {
-        fprintf(stderr, "refusal %d\n", (int)refusal);
+        fprintf(stderr, "%s\n", malikoza_refusal_text(refusal));
         exit(1);
     }
 }
 
-/* The knife comes at 40 mm/s to a corner 7.5 mm on. Each row says: coef_curr times the squared speed in the corner, plus
- * coef_prev times the squared speed before it, is at most rhs. */
-static void print_corner(double most) {
-    const double rows[3][3] = {
-        {-1, 0, -(20.0 * 20)},    /* the hot knife must not be slower than 20 mm/s: the web would melt to a bead */
-        {1, 0, most * most},      /* the arm must not be faster than this, or it shakes */
-        {-1, 1, 2.0 * 80 * 7.5},  /* it brakes by at most 80 mm/s each second, over 7.5 mm */
-    };
-    const uint64_t zero = pattern(0), top = pattern(6400), tolerance = pattern(1e-9);
-    uint64_t speed, worst_normalized, worst_raw, tried;
-    uint64_t refusal = malikoza_recover(pattern(40 * 40), zero, top, top, zero, top, pattern(30 * 30),
-                                        tolerance, tolerance, tolerance, LIST(rows),
-                                        &speed, &worst_normalized, &worst_raw, &tried);
-    printf("\nA corner where the knife must keep 20 mm/s and the arm allows %g mm/s:\n", most);
-    if (refusal == 0)
-        printf("  take it at %.2f mm/s (%d speeds tried)\n", number(malikoza_sqrt(speed)), (int)tried);
-    else
-        printf("  no speed: refusal %d\n", (int)refusal);
-}
+static double root(double x) { return malikoza_double(malikoza_sqrt(malikoza_pattern(x))); }
 
-int main(void) {
-    const double step = 0.1;
-    double a[STATIONS], t[STATIONS], places[PLACES];
-    uint64_t before, inside, past, written;
-    for (int i = 0; i < STATIONS; i++)
-        a[i] = speeds[i] * speeds[i];
-
-    must(malikoza_s_to_t(LIST(s), LIST(a), pattern(0), ROOM(t)));
+static void print_times(const double a[STATIONS], const double t[STATIONS]) {
     printf("The strap, station by station:\n\n   at mm    mm/s   after s\n");
     for (int i = 0; i < STATIONS; i++)
-        printf("%8.1f%8.1f%10.2f\n", s[i], number(malikoza_sqrt(pattern(a[i]))), t[i]);
+        printf("%8.1f%8.1f%10.2f\n", s[i], root(a[i]), t[i]);
+}
 
-    must(malikoza_t_to_s_grid(LIST(s), LIST(a), LIST(t), pattern(t[0]), pattern(step), 1, ROOM(places),
-                              &before, &inside, &past, &written));
+static void print_places(const double a[STATIONS], const double t[STATIONS]) {
+    const double step = 0.1;
+    const size_t length = STATIONS * sizeof *a;
+    double places[PLACES];
+    uint64_t before, inside, past, written;
+    must(malikoza_t_to_s_grid(LIST(s), (const uint8_t *)a, length, (const uint8_t *)t, length, malikoza_pattern(t[0]),
+                              malikoza_pattern(step), 1, ROOM(places), &before, &inside, &past, &written));
     printf("\nWhere the knife is at each tenth of a second, the strap's end last:\n\n after s     at mm\n");
     for (int i = 0; i < (int)inside; i++)
         printf("%8.1f%10.2f\n", t[0] + i * step, places[i]);
     printf("%8.1f%10.2f\n", t[STATIONS - 1], places[written - 1]);
+}
 
+/* What the number of candidates tried tells. */
+static const char *found_by(uint64_t tried) {
+    if (tried == 1)
+        return "the cap meets every row";
+    if (tried == 2)
+        return "the cap does not meet every row, but the most that the rows leave does";
+    if (tried <= 6)
+        return "neither the cap nor the most that the rows leave meets every row, but a double just below does";
+    return "found by halving";
+}
+
+/* The knife comes at 40 mm/s to a corner 7.5 mm on, whose cap is 30 mm/s. */
+static uint64_t recover(const double rows[ROWS][3], uint64_t *speed, uint64_t *tried) {
+    const uint64_t a_prev = malikoza_pattern(40 * 40), zero = malikoza_pattern(0), top = malikoza_pattern(6400),
+                   cap = malikoza_pattern(30 * 30), tolerance = malikoza_pattern(1e-9);
+    uint64_t worst_normalized, worst_raw;
+    return malikoza_recover(a_prev, zero, top, top, zero, top, cap, tolerance, tolerance, tolerance,
+                            (const uint8_t *)rows, ROWS * sizeof *rows, speed, &worst_normalized, &worst_raw, tried);
+}
+
+static void print_corner(double most) {
+    const char *const why[ROWS] = {
+        "at least 20 mm/s, or the web melts to a bead",
+        "at most what the arm allows, or it shakes",
+        "it brakes by at most 80 mm/s each second, over 7.5 mm",
+    };
+    const double rows[ROWS][3] = {{-1, 0, -(20.0 * 20)}, {1, 0, most * most}, {-1, 1, 2.0 * 80 * 7.5}};
+    uint64_t speed, tried;
+    const uint64_t refusal = recover(rows, &speed, &tried);
+    printf("\nThe arm allows %g mm/s:\n\n coef_curr coef_prev       rhs\n", most);
+    for (int i = 0; i < ROWS; i++)
+        printf("%10g%10g%10g   %s\n", rows[i][0], rows[i][1], rows[i][2], why[i]);
+    if (refusal == 0)
+        printf("\n  take it at %.2f mm/s: %s (speeds tried: %d)\n", root(malikoza_double(speed)), found_by(tried),
+               (int)tried);
+    else
+        printf("\n  no speed, %s\n", malikoza_refusal_text(refusal));
+}
+
+static void print_corners(void) {
+    printf("\nThe knife comes at 40 mm/s, a squared speed of 1600, to a corner whose cap is 30 mm/s, squared 900.\n"
+           "Each row says of the squared speed x in the corner: coef_curr * x + coef_prev * 1600 is at most rhs.\n");
+    print_corner(35);
     print_corner(25);
     print_corner(15);
+}
+
+int main(void) {
+    double a[STATIONS], t[STATIONS];
+    for (int i = 0; i < STATIONS; i++)
+        a[i] = speeds[i] * speeds[i];
+    must(malikoza_s_to_t(LIST(s), LIST(a), malikoza_pattern(0), ROOM(t)));
+    print_times(a, t);
+    print_places(a, t);
+    print_corners();
     return 0;
 }

@@ -1,10 +1,14 @@
-//! The least stack on which calls of each entry return, small calls and the largest: `cargo run --release --example stack`.
+//! The least stack on which calls of each entry return, small calls and the largest:
+//! `cargo run --release --example stack`.
 //!
-//! A thread that runs out of stack takes its process with it, so each try is a process of its own: this program, started again with the places of a call and a
-//! size and a number of KiB. What is printed is the least thread on which the call returned; of its stack the thread and its caller take a few KiB themselves,
-//! as "no call" shows. Who asks for a thread of 16 KiB is given 24 here: so each try has a thread of `ABOVE` bytes more, and uses them up before the call.
+//! A thread that runs out of stack takes its process with it, so each try is a process of its own: this program, started
+//! again with the places of a call and a size and a number of KiB. What is printed is the least thread on which the call
+//! returned; of its stack the thread and its caller take a few KiB themselves, as "no call" shows. Who asks for a thread
+//! of 16 KiB is given 24 here: so each try has a thread of `ABOVE` bytes more, and uses them up before the call.
 
-use malikoza::{a_to_b, recover, s_to_t, t_to_s_grid, t_to_s_list, Interval, Refusal, Request, MOST_ROWS, MOST_SAMPLES, MOST_STATIONS};
+use malikoza::{
+    a_to_b, recover, s_to_t, t_to_s_grid, t_to_s_list, Refusal, Request, Station, MAX_ROWS, MAX_SAMPLES, MAX_STATIONS,
+};
 use std::hint::black_box;
 use std::process::{Command, Stdio};
 use std::thread;
@@ -18,7 +22,7 @@ struct Size {
 /// The largest of the small calls, for which the library has small arrays, and the largest of all.
 const SIZES: [Size; 2] = [
     Size { stations: 256, samples: 1024, rows: 32 },
-    Size { stations: MOST_STATIONS, samples: MOST_SAMPLES, rows: MOST_ROWS },
+    Size { stations: MAX_STATIONS, samples: MAX_SAMPLES, rows: MAX_ROWS },
 ];
 
 /// What the calls are lent.
@@ -33,7 +37,8 @@ struct Lists {
 }
 
 impl Lists {
-    /// Stations that stand for their own times; speeds of zero, of an exact root and of none; rows that leave it to the halvings to find a speed.
+    /// Stations that stand for their own times; speeds of zero, of an exact root and of none; rows that leave it to the
+    /// halvings to find a speed.
     fn new(size: &Size) -> Lists {
         let count = size.samples as f64;
         Lists {
@@ -47,13 +52,10 @@ impl Lists {
     }
 }
 
-const INTERVAL: Interval = Interval { lower: 0.0, upper: 4.0 };
 const REQUEST: Request = Request {
     a_prev: 0.7,
-    prev_backward: INTERVAL,
-    curr_backward: INTERVAL,
-    prev_path_max: 9.0,
-    curr_path_max: 3.0,
+    prev: Station { lower: 0.0, upper: 4.0, cap: 9.0 },
+    curr: Station { lower: 0.0, upper: 4.0, cap: 3.0 },
     feas_tol: 0.0,
     a_cmp_abs_tol: 0.0,
     a_cmp_rel_tol: 0.0,
@@ -79,7 +81,9 @@ const CALLS: [(&str, Call); 24] = [
     ("absolute", |l| kept(malikoza::absolute(l.rows[0][0]))),
     ("whole_part", |l| kept(malikoza::whole_part(l.rows[0][2]) as f64)),
     ("recover, searched", |l| recover(&REQUEST, &l.rows).map(|found| assert!(found.tried > 6)).err()),
-    ("recover, cap passes", |l| recover(&REQUEST, &vec![[1.0, 0.0, 9.0]; l.rows.len()]).map(|found| assert!(found.tried == 1)).err()),
+    ("recover, cap passes", |l| {
+        recover(&REQUEST, &vec![[1.0, 0.0, 9.0]; l.rows.len()]).map(|found| assert!(found.tried == 1)).err()
+    }),
     ("recover, a row that no speed meets", |l| recover(&REQUEST, &[&l.rows[1..], &[[-1.0, 0.0, -5.0]]].concat()).err()),
     ("a_to_b", |l| a_to_b(&l.s, &l.a, &mut l.out).err()),
     ("a_to_b, a of another length", |l| a_to_b(&l.s, &l.a[1..], &mut l.out).err()),
@@ -87,8 +91,10 @@ const CALLS: [(&str, Call); 24] = [
     ("s_to_t, a of another length", |l| s_to_t(&l.s, &l.a[1..], 0.0, &mut l.out).err()),
     ("s_to_t, t0 not finite", |l| s_to_t(&l.s, &l.a, f64::NAN, &mut l.out).err()),
     ("t_to_s_list", |l| t_to_s_list(&l.s, &l.a, &l.s, &l.samples, &mut l.out).err()),
-    ("t_to_s_list, too many samples", |l| t_to_s_list(&l.s, &l.a, &l.s, &vec![0.0; MOST_SAMPLES + 1], &mut l.out).err()),
-    ("t_to_s_list, samples not rising", |l| t_to_s_list(&l.s, &l.a, &l.s, &[&l.samples[1..], &[0.0]].concat(), &mut l.out).err()),
+    ("t_to_s_list, too many samples", |l| t_to_s_list(&l.s, &l.a, &l.s, &vec![0.0; MAX_SAMPLES + 1], &mut l.out).err()),
+    ("t_to_s_list, samples not rising", |l| {
+        t_to_s_list(&l.s, &l.a, &l.s, &[&l.samples[1..], &[0.0]].concat(), &mut l.out).err()
+    }),
     ("t_to_s_list, t of another length", |l| t_to_s_list(&l.s, &l.a, &l.s[1..], &l.samples, &mut l.out).err()),
     ("t_to_s_grid with the final", |l| t_to_s_grid(&l.s, &l.a, &l.s, 0.0, l.step, true, &mut l.out).err()),
     ("t_to_s_grid, too many times", |l| t_to_s_grid(&l.s, &l.a, &l.s, 0.0, 0.001, true, &mut l.out).err()),
@@ -116,7 +122,7 @@ fn make(call: Call, size: &Size, kib: usize) -> Option<Refusal> {
         let builder = thread::Builder::new().stack_size(ABOVE + kib * 1024);
         let started = builder.spawn_scoped(scope, || {
             let top = 0_u8;
-            lower(call, &mut lists, black_box(&top) as *const u8 as usize)
+            lower(call, &mut lists, std::ptr::from_ref(black_box(&top)) as usize)
         });
         started.expect("a thread starts").join().expect("the call returns")
     })
@@ -134,7 +140,11 @@ fn least(call: usize, size: usize) -> usize {
     let (mut short, mut enough) = (0, 1024);
     while enough - short > 1 {
         let middle = (short + enough) / 2;
-        if returns(call, size, 4 * middle) { enough = middle } else { short = middle }
+        if returns(call, size, 4 * middle) {
+            enough = middle;
+        } else {
+            short = middle;
+        }
     }
     4 * enough
 }

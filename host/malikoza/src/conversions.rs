@@ -3,7 +3,8 @@
 use crate::entries::{self, list, list_mut};
 use crate::refusal::{self, Refusal};
 
-/// How many sample times fell where, and how many entries were written. A final station that was added is an entry but no time.
+/// How many sample times fell where, and how many entries were written. A final station that was added is an entry but
+/// no time.
 #[derive(Clone, Copy, Debug, PartialEq, Eq)]
 pub struct Counts {
     /// Times before the first station's; their entries are NaN.
@@ -26,15 +27,20 @@ struct Lent {
 }
 
 impl Lent {
-    /// None of them is above the most samples and a final.
+    #[allow(clippy::cast_possible_truncation)] // none of them is above the most samples and a final
     fn counts(&self) -> Counts {
-        Counts { before: self.before as usize, inside: self.inside as usize, past: self.past as usize, written: self.written as usize }
+        Counts {
+            before: self.before as usize,
+            inside: self.inside as usize,
+            past: self.past as usize,
+            written: self.written as usize,
+        }
     }
 }
 
 /// The acceleration along the path, 0.5·(a1 - a0)/(s1 - s0), between each pair of neighbouring stations.
 ///
-/// Writes one entry fewer than there are stations. Refuses with 11 to 15, 29, in that order.
+/// Writes one entry fewer than there are stations.
 ///
 /// ```
 /// let mut b = [0.0; 2];
@@ -42,6 +48,10 @@ impl Lent {
 /// assert_eq!(b, [2.0, 0.0]);
 /// # Ok::<(), malikoza::Refusal>(())
 /// ```
+///
+/// # Errors
+///
+/// Refusals 11 to 15, 29; of several that hold, the first in that order.
 pub fn a_to_b(s: &[f64], a: &[f64], out: &mut [f64]) -> Result<(), Refusal> {
     let ((s, s_len), (a, a_len), (out, out_len)) = (list(s), list(a), list_mut(out));
     // SAFETY: each pointer stands with the length of its own slice, and nothing else is lent with `out`.
@@ -50,7 +60,7 @@ pub fn a_to_b(s: &[f64], a: &[f64], out: &mut [f64]) -> Result<(), Refusal> {
 
 /// The time at each station: t0 at the first, then 2·(s1 - s0)/(root a0 + root a1) more for each pair.
 ///
-/// Writes one entry for each station. Refuses with 11 to 18, 29, 19, in that order.
+/// Writes one entry for each station.
 ///
 /// ```
 /// let mut t = [0.0; 3];
@@ -58,6 +68,10 @@ pub fn a_to_b(s: &[f64], a: &[f64], out: &mut [f64]) -> Result<(), Refusal> {
 /// assert_eq!(t, [10.0, 11.0, 12.0]);
 /// # Ok::<(), malikoza::Refusal>(())
 /// ```
+///
+/// # Errors
+///
+/// Refusals 11 to 18, 29, 19; of several that hold, the first in that order.
 pub fn s_to_t(s: &[f64], a: &[f64], t0: f64, out: &mut [f64]) -> Result<(), Refusal> {
     let ((s, s_len), (a, a_len), (out, out_len)) = (list(s), list(a), list_mut(out));
     // SAFETY: each pointer stands with the length of its own slice, and nothing else is lent with `out`.
@@ -66,8 +80,7 @@ pub fn s_to_t(s: &[f64], a: &[f64], t0: f64, out: &mut [f64]) -> Result<(), Refu
 
 /// Where the knife is at each time of a list; NaN before the first station's time and past the last's.
 ///
-/// `t` holds the stations' times, as [`s_to_t`] gives them. Writes one entry for each sample. Refuses with 11 to 15, 17, 18, 20 to 22, 25, 28, 26, 27, 29, in
-/// that order.
+/// `t` holds the stations' times, as [`s_to_t`] gives them. Writes one entry for each sample.
 ///
 /// ```
 /// let samples = [9.0, 10.0, 10.5, 11.0, 11.5, 12.0, 12.5];
@@ -78,6 +91,10 @@ pub fn s_to_t(s: &[f64], a: &[f64], t0: f64, out: &mut [f64]) -> Result<(), Refu
 /// assert_eq!(counts, malikoza::Counts { before: 1, inside: 5, past: 1, written: 7 });
 /// # Ok::<(), malikoza::Refusal>(())
 /// ```
+///
+/// # Errors
+///
+/// Refusals 11 to 15, 17, 18, 20 to 22, 25, 28, 26, 27, 29; of several that hold, the first in that order.
 pub fn t_to_s_list(s: &[f64], a: &[f64], t: &[f64], samples: &[f64], out: &mut [f64]) -> Result<Counts, Refusal> {
     let ((s, s_len), (a, a_len), (t, t_len)) = (list(s), list(a), list(t));
     let ((samples, samples_len), (out, out_len)) = (list(samples), list_mut(out));
@@ -85,34 +102,70 @@ pub fn t_to_s_list(s: &[f64], a: &[f64], t: &[f64], samples: &[f64], out: &mut [
     let Lent { before, inside, past, written } = &mut lent;
     // SAFETY: each pointer stands with the length of its own slice; `out` and the counts are lent for this call alone.
     refusal::none(unsafe {
-        entries::malikoza_t_to_s_list(s, s_len, a, a_len, t, t_len, samples, samples_len, out, out_len, before, inside, past, written)
+        entries::malikoza_t_to_s_list(
+            s,
+            s_len,
+            a,
+            a_len,
+            t,
+            t_len,
+            samples,
+            samples_len,
+            out,
+            out_len,
+            before,
+            inside,
+            past,
+            written,
+        )
     })?;
     Ok(lent.counts())
 }
 
 /// Where the knife is at each time of an even grid; NaN before the first station's time and past the last's.
 ///
-/// The grid's times are t0 + i·dt for i from 0 to n-1, n being the whole part of (last time - t0)/dt, 0 if that is below 1. With the final asked for, the last
-/// station is added: where no sample was made, if t0 is not above the last time; else if the last entry is less than the last station (a NaN isn't).
+/// The grid's times are t0 + i·dt for i from 0 to n-1, n being the whole part of (last time - t0)/dt, 0 if that is
+/// below 1. With the final asked for, the last station is added: where no sample was made, if t0 is not above the last
+/// time; else if the last entry is less than the last station (a NaN isn't).
 ///
-/// Needs room for n entries, and for one more if the final is asked for, added or not. Refuses with 11 to 15, 17, 18, 20 to 22, 16, 23, 24, 28, 29, in that
-/// order.
+/// Needs room for n entries, and for one more if the final is asked for, added or not.
 ///
 /// ```
+/// let (s, a, t) = ([0.0, 1.0, 3.0], [0.0, 4.0, 4.0], [10.0, 11.0, 12.0]);
 /// let mut out = [0.0; 5];
-/// let counts = malikoza::t_to_s_grid(&[0.0, 1.0, 3.0], &[0.0, 4.0, 4.0], &[10.0, 11.0, 12.0], 10.0, 0.5, true, &mut out)?;
+/// let counts = malikoza::t_to_s_grid(&s, &a, &t, 10.0, 0.5, true, &mut out)?;
 /// assert_eq!(out, [0.0, 0.25, 1.0, 2.0, 3.0]);
 /// assert_eq!(counts, malikoza::Counts { before: 0, inside: 4, past: 0, written: 5 });
 /// # Ok::<(), malikoza::Refusal>(())
 /// ```
-pub fn t_to_s_grid(s: &[f64], a: &[f64], t: &[f64], t0: f64, dt: f64, with_final: bool, out: &mut [f64]) -> Result<Counts, Refusal> {
+///
+/// # Errors
+///
+/// Refusals 11 to 15, 17, 18, 20 to 22, 16, 23, 24, 28, 29; of several that hold, the first in that order.
+pub fn t_to_s_grid(
+    s: &[f64], a: &[f64], t: &[f64], t0: f64, dt: f64, with_final: bool, out: &mut [f64],
+) -> Result<Counts, Refusal> {
     let ((s, s_len), (a, a_len), (t, t_len), (out, out_len)) = (list(s), list(a), list(t), list_mut(out));
     let mut lent = Lent::default();
     let Lent { before, inside, past, written } = &mut lent;
     // SAFETY: each pointer stands with the length of its own slice; `out` and the counts are lent for this call alone.
     refusal::none(unsafe {
         entries::malikoza_t_to_s_grid(
-            s, s_len, a, a_len, t, t_len, t0.to_bits(), dt.to_bits(), with_final.into(), out, out_len, before, inside, past, written,
+            s,
+            s_len,
+            a,
+            a_len,
+            t,
+            t_len,
+            t0.to_bits(),
+            dt.to_bits(),
+            with_final.into(),
+            out,
+            out_len,
+            before,
+            inside,
+            past,
+            written,
         )
     })?;
     Ok(lent.counts())

@@ -9,6 +9,7 @@ use crate::entries;
 /// let least = f64::from_bits(1); // 2^-1074
 /// assert_eq!(malikoza::sqrt(least), 2f64.powi(-537));
 /// ```
+#[must_use]
 pub fn sqrt(x: f64) -> f64 {
     f64::from_bits(entries::malikoza_sqrt(x.to_bits()))
 }
@@ -20,6 +21,7 @@ pub fn sqrt(x: f64) -> f64 {
 /// assert_eq!(malikoza::fma(1.0 + e, 1.0 - e, -1.0), -2f64.powi(-104));
 /// assert_eq!((1.0 + e) * (1.0 - e) - 1.0, 0.0); // rounded twice
 /// ```
+#[must_use]
 pub fn fma(x: f64, y: f64, z: f64) -> f64 {
     f64::from_bits(entries::malikoza_fma(x.to_bits(), y.to_bits(), z.to_bits()))
 }
@@ -32,6 +34,7 @@ pub fn fma(x: f64, y: f64, z: f64) -> f64 {
 /// assert_eq!(malikoza::hypot(least, least), least);
 /// assert_eq!(malikoza::hypot(f64::MAX, f64::MAX), f64::INFINITY);
 /// ```
+#[must_use]
 pub fn hypot(x: f64, y: f64) -> f64 {
     f64::from_bits(entries::malikoza_hypot(x.to_bits(), y.to_bits()))
 }
@@ -42,6 +45,7 @@ pub fn hypot(x: f64, y: f64) -> f64 {
 /// let least = f64::from_bits(1); // 2^-1074
 /// assert_eq!(malikoza::next_down(0.0), -least);
 /// ```
+#[must_use]
 pub fn next_down(x: f64) -> f64 {
     f64::from_bits(entries::malikoza_next_down(x.to_bits()))
 }
@@ -52,6 +56,7 @@ pub fn next_down(x: f64) -> f64 {
 /// assert_eq!(malikoza::minimum(f64::NAN, 1.0), 1.0);
 /// assert!(malikoza::minimum(0.0, -0.0).is_sign_negative());
 /// ```
+#[must_use]
 pub fn minimum(x: f64, y: f64) -> f64 {
     f64::from_bits(entries::malikoza_minimum(x.to_bits(), y.to_bits()))
 }
@@ -62,6 +67,7 @@ pub fn minimum(x: f64, y: f64) -> f64 {
 /// assert_eq!(malikoza::maximum(f64::NAN, 1.0), 1.0);
 /// assert!(malikoza::maximum(-0.0, 0.0).is_sign_positive());
 /// ```
+#[must_use]
 pub fn maximum(x: f64, y: f64) -> f64 {
     f64::from_bits(entries::malikoza_maximum(x.to_bits(), y.to_bits()))
 }
@@ -71,6 +77,7 @@ pub fn maximum(x: f64, y: f64) -> f64 {
 /// ```
 /// assert_eq!(malikoza::absolute(-3.0), 3.0);
 /// ```
+#[must_use]
 pub fn absolute(x: f64) -> f64 {
     f64::from_bits(entries::malikoza_absolute(x.to_bits()))
 }
@@ -81,6 +88,7 @@ pub fn absolute(x: f64) -> f64 {
 /// assert_eq!(malikoza::whole_part(3.75), 3);
 /// assert_eq!(malikoza::whole_part(-3.75), 0);
 /// ```
+#[must_use]
 pub fn whole_part(x: f64) -> u64 {
     entries::malikoza_whole_part(x.to_bits())
 }

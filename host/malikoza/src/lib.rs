@@ -1,7 +1,7 @@
 //! Malikoza tells a hot knife on a robot how fast it may go, and where it is when.
 //!
-//! This is a safe face of libmalikoza.a, whose every answer is proved to be the one that a short definition names. Nothing traps and nothing hangs: what
-//! cannot be answered is refused, by a [`Refusal`] with its number.
+//! This is a safe face of libmalikoza.a, whose every answer is proved to be the one that a short definition names.
+//! Nothing traps and nothing hangs: what cannot be answered is refused, by a [`Refusal`] with its number.
 //!
 //! | function | answers |
 //! |---|---|
@@ -12,11 +12,13 @@
 //! | [`sqrt`], [`fma`], [`hypot`] | the nearest double, ties to even |
 //! | [`next_down`], [`minimum`], [`maximum`], [`absolute`], [`whole_part`] | as they are named |
 //!
-//! Stations `s` rise along the path; `a` are squared speeds, one for each station; `t` are times. The conversions write the front of a slice that they are
-//! lent, and nothing at all where they refuse; [`owned`] has the same ones with a list of their own. A NaN of any pattern reads as NaN, and every NaN
-//! answered is 7FF8000000000000.
+//! Stations `s` rise along the path; `a` are squared speeds, one for each station; `t` are times. The conversions write
+//! the front of a slice that they are lent, and nothing at all where they refuse; [`owned`] has the same ones with a
+//! list of their own. A NaN of any pattern reads as NaN, and every NaN answered is 7FF8000000000000. The rules in full,
+//! with worked figures, are in docs/RULES.md.
 //!
-//! The conversions read and write the slices where they stand. No call needs more than 40 KiB of stack: include/malikoza.h lists how much each entry needs.
+//! The conversions read and write the slices where they stand. No call needs more than 40 KiB of stack:
+//! include/malikoza.h lists how much each entry needs.
 //!
 //! ```
 //! let s = [0.0, 1.0, 3.0];
@@ -44,12 +46,12 @@ mod tests;
 
 pub use conversions::{a_to_b, s_to_t, t_to_s_grid, t_to_s_list, Counts};
 pub use leaves::{absolute, fma, hypot, maximum, minimum, next_down, sqrt, whole_part};
-pub use recovery::{recover, Interval, Recovered, Request};
+pub use recovery::{recover, Recovered, Request, Station};
 pub use refusal::Refusal;
 
 /// The most rows that a recovery takes.
-pub const MOST_ROWS: usize = 256;
+pub const MAX_ROWS: usize = 256;
 /// The most stations that a conversion takes; 2 are the fewest.
-pub const MOST_STATIONS: usize = 4096;
+pub const MAX_STATIONS: usize = 4096;
 /// The most samples that a conversion takes, the final station of a grid not counted.
-pub const MOST_SAMPLES: usize = 65536;
+pub const MAX_SAMPLES: usize = 65536;

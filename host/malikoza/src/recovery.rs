@@ -3,33 +3,31 @@
 use crate::entries::{self, list};
 use crate::refusal::{self, Refusal};
 
-/// The squared speeds that a backward pass leaves a station, both ends included.
+/// What bounds the squared speed at a station. In C, `lower` of the previous station is `prev_lower`, and so on.
 #[derive(Clone, Copy, Debug, PartialEq)]
-pub struct Interval {
-    /// The least.
+pub struct Station {
+    /// The least squared speed of its interval. Below zero it counts as zero.
     pub lower: f64,
-    /// The greatest.
+    /// The greatest squared speed of its interval.
     pub upper: f64,
+    /// Its cap: the greatest squared speed that the path itself allows there.
+    pub cap: f64,
 }
 
 /// What a recovery is asked: everything but the rows. Speeds are squared.
 #[derive(Clone, Copy, Debug, PartialEq)]
 pub struct Request {
-    /// The speed at the previous station.
+    /// The squared speed at the previous station.
     pub a_prev: f64,
-    /// The previous station's backward interval.
-    pub prev_backward: Interval,
-    /// The current station's backward interval.
-    pub curr_backward: Interval,
-    /// The previous station's path cap.
-    pub prev_path_max: f64,
-    /// The current station's path cap.
-    pub curr_path_max: f64,
-    /// How far a row may be passed.
+    /// The previous station.
+    pub prev: Station,
+    /// The current station, whose speed is looked for.
+    pub curr: Station,
+    /// By how much a row may be exceeded.
     pub feas_tol: f64,
-    /// How far, plainly, `a_prev` may lie outside the previous station's bounds.
+    /// By how much `a_prev` may lie outside the previous station's bounds.
     pub a_cmp_abs_tol: f64,
-    /// The same as a part of the larger of the two compared.
+    /// The same as a part of the larger of the two that are compared; the larger allowance counts.
     pub a_cmp_rel_tol: f64,
 }
 
@@ -48,26 +46,25 @@ pub struct Recovered {
 
 /// The squared speed at the current station that its cap and its rows allow, certified.
 ///
-/// A row is coef_curr, coef_prev, rhs: it admits the speed x if coef_curr·x + coef_prev·a_prev is at most rhs, within `feas_tol`. The cap is tried first;
-/// where it fails, the rows give a projected upper end, and a speed that passes is searched for from there down. Neither the order of the rows nor how often
-/// one is given changes the answer.
-///
-/// Refuses with 1 to 9, in that order.
+/// A row is `coef_curr`, `coef_prev`, `rhs`: it admits the squared speed x if `coef_curr`·x + `coef_prev`·`a_prev` is
+/// at most `rhs`, within `feas_tol`. The cap is tried first; where it fails, the rows give a projected upper end, and
+/// a speed that passes is searched for from there down. Neither the order of the rows nor how often one is given
+/// changes the answer. docs/RULES.md has every step, with figures.
 ///
 /// ```
-/// use malikoza::{recover, Interval, Recovered, Refusal, Request};
+/// use malikoza::{recover, Recovered, Refusal, Request, Station};
 ///
 /// let mut request = Request {
 ///     a_prev: 1.0,
-///     prev_backward: Interval { lower: 0.0, upper: 4.0 },
-///     curr_backward: Interval { lower: 0.0, upper: 4.0 },
-///     prev_path_max: 9.0,
-///     curr_path_max: 3.0,
+///     prev: Station { lower: 0.0, upper: 4.0, cap: 9.0 },
+///     curr: Station { lower: 0.0, upper: 4.0, cap: 3.0 },
 ///     feas_tol: 0.0,
 ///     a_cmp_abs_tol: 0.0,
 ///     a_cmp_rel_tol: 0.0,
 /// };
-/// let answer = |speed, worst_normalized, worst_raw, tried| Ok(Recovered { speed, worst_normalized, worst_raw, tried });
+/// let answer = |speed, worst_normalized, worst_raw, tried| {
+///     Ok(Recovered { speed, worst_normalized, worst_raw, tried })
+/// };
 /// assert_eq!(recover(&request, &[]), answer(3.0, 0.0, 0.0, 1));
 /// assert_eq!(recover(&request, &[[1.0, 0.0, 2.0]]), answer(2.0, 0.0, 0.0, 2));
 /// assert_eq!(recover(&request, &[[0.0, 0.0, -1.0]]), Err(Refusal::RowImpossible));
@@ -75,6 +72,10 @@ pub struct Recovered {
 /// request.feas_tol = 0.25;
 /// assert_eq!(recover(&request, &[[2.0, 0.0, 4.0]]), answer(2.25, 0.25, 0.5, 2));
 /// ```
+///
+/// # Errors
+///
+/// Refusals 1 to 9; of several that hold, the first in that order. 9 doesn't say that no double passes.
 pub fn recover(request: &Request, rows: &[[f64; 3]]) -> Result<Recovered, Refusal> {
     let q = request;
     let (rows, rows_len) = list(rows.as_flattened());
@@ -83,21 +84,21 @@ pub fn recover(request: &Request, rows: &[[f64; 3]]) -> Result<Recovered, Refusa
     let number = unsafe {
         entries::malikoza_recover(
             q.a_prev.to_bits(),
-            q.prev_backward.lower.to_bits(),
-            q.prev_backward.upper.to_bits(),
-            q.prev_path_max.to_bits(),
-            q.curr_backward.lower.to_bits(),
-            q.curr_backward.upper.to_bits(),
-            q.curr_path_max.to_bits(),
+            q.prev.lower.to_bits(),
+            q.prev.upper.to_bits(),
+            q.prev.cap.to_bits(),
+            q.curr.lower.to_bits(),
+            q.curr.upper.to_bits(),
+            q.curr.cap.to_bits(),
             q.feas_tol.to_bits(),
             q.a_cmp_abs_tol.to_bits(),
             q.a_cmp_rel_tol.to_bits(),
             rows,
             rows_len,
-            &mut speed,
-            &mut worst_normalized,
-            &mut worst_raw,
-            &mut tried,
+            &raw mut speed,
+            &raw mut worst_normalized,
+            &raw mut worst_raw,
+            &raw mut tried,
         )
     };
     refusal::none(number)?;

@@ -6,20 +6,39 @@ use std::fmt;
 /// The enum with a variant for each line, and each line's number and sentence.
 macro_rules! refusals {
     ($($number:literal $name:ident: $sentence:literal,)*) => {
-        /// Why a call was refused. Each has a number, which the C entries return, and a sentence, which is its `Display`.
+        /// Why a call was refused. Each has a number, which the C entries return, and a sentence, which is its
+        /// `Display`; docs/RULES.md has the exact rule of each.
+        ///
+        /// ```
+        /// let refused = malikoza::Refusal::SpeedCount;
+        /// assert_eq!(refused.number(), 12);
+        /// assert_eq!(refused.to_string(), "refusal 12: as many squared speeds as stations are needed");
+        /// ```
         #[derive(Clone, Copy, Debug, PartialEq, Eq, Hash)]
         #[non_exhaustive]
         pub enum Refusal {
-            $(#[doc = concat!($number, ": ", $sentence)] $name = $number,)*
+            $(#[doc = concat!($number, ": ", $sentence, ".")] $name,)*
+            /// A number that this version does not know: the archive is of another one.
+            Unknown(u64),
         }
 
         impl Refusal {
-            /// Every refusal, by rising number.
+            /// Every refusal that this version knows, by rising number.
             pub const ALL: &'static [Refusal] = &[$(Refusal::$name),*];
 
-            fn sentence(self) -> &'static str {
+            /// The number that the C entries return.
+            #[must_use]
+            pub const fn number(self) -> u64 {
+                match self {
+                    $(Refusal::$name => $number,)*
+                    Refusal::Unknown(number) => number,
+                }
+            }
+
+            const fn sentence(self) -> &'static str {
                 match self {
                     $(Refusal::$name => $sentence,)*
+                    Refusal::Unknown(_) => "a number that this version does not know",
                 }
             }
         }
@@ -27,47 +46,40 @@ macro_rules! refusals {
 }
 
 refusals! {
-     1 RowsLength: "list length no multiple of 3, or over 768",
-     2 RequestNumber: "a tolerance not finite or negative; a_prev or a previous interval end not finite; a current end or path cap NaN",
-     3 PreviousStation: "previous lower or upper not finite, or a_prev outside",
-     4 CurrentBounds: "lower or upper not finite, or lower > upper",
-     5 RowNumber: "any row: a number not finite; norm not finite; norm not zero and 1/norm or raw_tol not finite",
-     6 RowImpossible: "any row with norm zero and rhs < 0",
-     7 ProjectionNotFinite: "cap failed, and r of any row not finite",
-     8 ProjectionEmpty: "a row with c zero and r < 0, or a projected end not finite, or low > high",
-     9 MiddleFails: "middle fails after the neighbours failed",
-    10 NotEights: "C boundary only, recovery too: a byte list, output included, of a length not divisible by eight; before all others",
-    11 StationCount: "fewer than 2 stations or more than 4,096",
-    12 SpeedCount: "a of another length",
-    13 StationNotFinite: "s with an entry not finite",
-    14 SpeedNotFinite: "a with an entry not finite",
-    15 StationsNotIncreasing: "s not strictly increasing",
-    16 StartNotFinite: "t0 not finite",
-    17 SpeedNegative: "an a below zero (minus zero is not)",
-    18 Standstill: "two neighbouring a both zero",
-    19 ComputedTimeNotFinite: "a computed time not finite",
-    20 TimeCount: "time list: other length",
-    21 TimeNotFinite: "time list: not finite",
-    22 TimesNotIncreasing: "time list: not strictly increasing",
-    23 StepNotFinite: "dt not finite",
-    24 StepNotPositive: "dt ≤ 0",
-    25 NoSamples: "sample list: empty",
-    26 SampleNotFinite: "sample list: not finite",
-    27 SamplesNotIncreasing: "sample list: not strictly increasing",
-    28 TooManySamples: "more than 65,536 samples",
-    29 OutputTooShort: "output shorter than needed",
-}
-
-impl Refusal {
-    /// The number that the C entries return.
-    pub fn number(self) -> u64 {
-        self as u64
-    }
+     1 RowsLength: "a row is three doubles, and 256 rows are the most",
+     2 RequestNumber: "tolerances must be finite and not negative, a_prev and the previous interval finite, no other bound NaN",
+     3 PreviousStation: "the previous station's bounds must be finite, and a_prev must lie between them",
+     4 CurrentBounds: "the current station's bounds must be finite, and the lower one not above the upper",
+     5 RowNumber: "the numbers of a row must be finite, and neither too large nor too small to be worked with",
+     6 RowImpossible: "both coefficients of a row are zero and its rhs is below zero: no speed meets it",
+     7 ProjectionNotFinite: "the cap fails, and the numbers of a row are too large to tell which speeds it allows",
+     8 ProjectionEmpty: "the rows leave no speed between the bounds",
+     9 MiddleFails: "no speed was found: the end that the rows leave fails, and so do its neighbours and the middle",
+    10 NotEights: "the length of every byte list, output included, must be a multiple of eight",
+    11 StationCount: "2 to 4,096 stations are needed",
+    12 SpeedCount: "as many squared speeds as stations are needed",
+    13 StationNotFinite: "every station must be finite",
+    14 SpeedNotFinite: "every squared speed must be finite",
+    15 StationsNotIncreasing: "each station must lie beyond the one before it",
+    16 StartNotFinite: "the start time t0 must be finite",
+    17 SpeedNegative: "no squared speed may be below zero",
+    18 Standstill: "of two neighbouring squared speeds one must be above zero, or the knife stands still",
+    19 ComputedTimeNotFinite: "a time comes out too large: it is not finite",
+    20 TimeCount: "as many times as stations are needed",
+    21 TimeNotFinite: "every time must be finite",
+    22 TimesNotIncreasing: "each time must be later than the one before it",
+    23 StepNotFinite: "the step dt must be finite",
+    24 StepNotPositive: "the step dt must be above zero",
+    25 NoSamples: "one sample at least is needed",
+    26 SampleNotFinite: "every sample must be finite",
+    27 SamplesNotIncreasing: "each sample must be later than the one before it",
+    28 TooManySamples: "65,536 samples are the most",
+    29 OutputTooShort: "the output has too little room",
 }
 
 impl fmt::Display for Refusal {
     fn fmt(&self, f: &mut fmt::Formatter<'_>) -> fmt::Result {
-        f.write_str(self.sentence())
+        write!(f, "refusal {}: {}", self.number(), self.sentence())
     }
 }
 
@@ -79,5 +91,5 @@ pub(crate) fn none(number: u64) -> Result<(), Refusal> {
         return Ok(());
     }
     let known = Refusal::ALL.iter().find(|refusal| refusal.number() == number);
-    Err(*known.expect("libmalikoza.a is of this crate's version, which knows all its numbers"))
+    Err(known.copied().unwrap_or(Refusal::Unknown(number)))
 }

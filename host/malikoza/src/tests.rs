@@ -1,7 +1,7 @@
-//! Each refusal once, by its number; and the C header beside the enum.
+//! Each refusal once, by its number; header, README and CHANGELOG beside the crate; and the cases that docs name.
 
 use crate::entries::{self, list, list_mut};
-use crate::{owned, recover, Interval, Refusal, Request};
+use crate::{owned, recover, Refusal, Request, Station};
 
 const S: [f64; 3] = [0.0, 1.0, 3.0];
 const A: [f64; 3] = [0.0, 4.0, 4.0];
@@ -10,10 +10,8 @@ const INF: f64 = f64::INFINITY;
 
 const REQUEST: Request = Request {
     a_prev: 1.0,
-    prev_backward: Interval { lower: 0.0, upper: 4.0 },
-    curr_backward: Interval { lower: 0.0, upper: 4.0 },
-    prev_path_max: 9.0,
-    curr_path_max: 3.0,
+    prev: Station { lower: 0.0, upper: 4.0, cap: 9.0 },
+    curr: Station { lower: 0.0, upper: 4.0, cap: 3.0 },
     feas_tol: 0.0,
     a_cmp_abs_tol: 0.0,
     a_cmp_rel_tol: 0.0,
@@ -56,7 +54,7 @@ fn each_refusal_has_its_number() {
         rows(&[[0.0; 3]; 257]),
         request(|q| q.feas_tol = -1.0),
         request(|q| q.a_prev = 5.0),
-        request(|q| (q.curr_backward.lower, q.curr_path_max) = (2.0, 1.5)),
+        request(|q| (q.curr.lower, q.curr.cap) = (2.0, 1.5)),
         rows(&[[0.0, 0.0, -1.0], [INF, 0.0, 0.0]]),
         rows(&[[0.0, 0.0, -1.0]]),
         rows(&[[1e-10, 0.0, 1e300]]),
@@ -102,18 +100,63 @@ fn an_answer_writes_the_front_only() {
     assert_eq!(out, [10.0, 11.0, 12.0, 7.0, 7.0]);
 }
 
-/// ProjectionEmpty as PROJECTION_EMPTY.
+#[test]
+fn a_list_of_its_own_is_as_long_as_what_is_written() {
+    let grid = |t0, dt, with_final| owned::t_to_s_grid(&S, &A, &T, t0, dt, with_final).unwrap().0;
+    assert_eq!(grid(10.0, 0.5, true).capacity(), 5);
+    assert_eq!(grid(10.0, 0.5, false).capacity(), 4);
+    assert_eq!(grid(13.0, 1.0, false).capacity(), 0);
+    assert_eq!(owned::t_to_s_grid(&[], &[], &[], 0.0, 1.0, true), Err(Refusal::StationCount));
+    assert_eq!(owned::t_to_s_grid(&S, &A, &T, 10.0, f64::NAN, true), Err(Refusal::StepNotFinite));
+}
+
+#[test]
+fn a_number_that_is_not_known_is_told() {
+    let unknown = crate::refusal::none(999).unwrap_err();
+    assert_eq!((unknown, unknown.number()), (Refusal::Unknown(999), 999));
+    assert_eq!(unknown.to_string(), "refusal 999: a number that this version does not know");
+}
+
+const HEADER: &str = include_str!("../../../include/malikoza.h");
+const README: &str = include_str!("../../../README.md");
+
+/// `ProjectionEmpty` as `PROJECTION_EMPTY`.
 fn in_capitals(name: &str) -> String {
     let spaced = name.chars().map(|c| if c.is_uppercase() { format!("_{c}") } else { c.to_uppercase().to_string() });
     spaced.collect::<String>().trim_start_matches('_').to_string()
 }
 
 #[test]
-fn the_header_has_the_same_names_numbers_and_sentences() {
-    let header = include_str!("../../../include/malikoza.h").replace("= 29 ", "= 29, ").replace("<=", "≤");
-    let header = header.split_whitespace().collect::<Vec<_>>().join(" ");
+fn header_and_readme_have_the_same_names_numbers_and_sentences() {
+    let header = HEADER.split_whitespace().collect::<Vec<_>>().join(" ");
     for refusal in Refusal::ALL {
-        let line = format!("MALIKOZA_{} = {}, /* {refusal} */", in_capitals(&format!("{refusal:?}")), refusal.number());
-        assert!(header.contains(&line), "include/malikoza.h lacks: {line}");
+        let name = format!("MALIKOZA_{}", in_capitals(&format!("{refusal:?}")));
+        let number = format!("{name} = {}", refusal.number());
+        let text = format!("case {name}: return \"{refusal}\";");
+        let row = refusal.to_string().replacen("refusal ", "| ", 1).replacen(": ", " | ", 1) + " |\n";
+        assert!([",", " }"].iter().any(|end| header.contains(&(number.clone() + end))), "malikoza.h lacks: {number}");
+        assert!(header.contains(&text), "malikoza.h lacks: {text}");
+        assert!(README.contains(&row), "README.md lacks: {row}");
     }
+    assert_eq!(header.matches("return \"refusal ").count(), Refusal::ALL.len());
+}
+
+#[test]
+fn header_and_crate_have_the_same_limits() {
+    let limits = [("ROWS", crate::MAX_ROWS), ("STATIONS", crate::MAX_STATIONS), ("SAMPLES", crate::MAX_SAMPLES)];
+    for (name, limit) in limits {
+        assert!(HEADER.contains(&format!("MALIKOZA_MAX_{name} = {limit}")), "malikoza.h has another {name}");
+    }
+}
+
+/// What stands between two texts, the first time that the first of them comes.
+fn between<'a>(whole: &'a str, start: &str, end: &str) -> &'a str {
+    whole.split_once(start).and_then(|(_, rest)| rest.split_once(end)).expect("both texts").0
+}
+
+#[test]
+fn header_crate_and_changelog_have_the_same_version() {
+    let version = between(HEADER, "#define MALIKOZA_VERSION \"", "\"");
+    assert_eq!(between(include_str!("../Cargo.toml"), "version = \"", "\""), version);
+    assert_eq!(between(include_str!("../../../CHANGELOG.md"), "\n## ", "\n"), version);
 }
