@@ -36,6 +36,8 @@
 compile_error!("the library takes doubles low byte first, and this crate lends it slices of f64 as they stand");
 
 mod conversions;
+#[cfg(test)]
+mod documents;
 mod entries;
 mod leaves;
 pub mod owned;

@@ -1,4 +1,4 @@
-//! Each refusal once, by its number; header, README and CHANGELOG beside the crate; and the cases that docs name.
+//! Each refusal once, by its number; and what a call leaves.
 
 use crate::entries::{self, list, list_mut};
 use crate::{owned, recover, Refusal, Request, Station};
@@ -115,48 +115,4 @@ fn a_number_that_is_not_known_is_told() {
     let unknown = crate::refusal::none(999).unwrap_err();
     assert_eq!((unknown, unknown.number()), (Refusal::Unknown(999), 999));
     assert_eq!(unknown.to_string(), "refusal 999: a number that this version does not know");
-}
-
-const HEADER: &str = include_str!("../../../include/malikoza.h");
-const README: &str = include_str!("../../../README.md");
-
-/// `ProjectionEmpty` as `PROJECTION_EMPTY`.
-fn in_capitals(name: &str) -> String {
-    let spaced = name.chars().map(|c| if c.is_uppercase() { format!("_{c}") } else { c.to_uppercase().to_string() });
-    spaced.collect::<String>().trim_start_matches('_').to_string()
-}
-
-#[test]
-fn header_and_readme_have_the_same_names_numbers_and_sentences() {
-    let header = HEADER.split_whitespace().collect::<Vec<_>>().join(" ");
-    for refusal in Refusal::ALL {
-        let name = format!("MALIKOZA_{}", in_capitals(&format!("{refusal:?}")));
-        let number = format!("{name} = {}", refusal.number());
-        let text = format!("case {name}: return \"{refusal}\";");
-        let row = refusal.to_string().replacen("refusal ", "| ", 1).replacen(": ", " | ", 1) + " |\n";
-        assert!([",", " }"].iter().any(|end| header.contains(&(number.clone() + end))), "malikoza.h lacks: {number}");
-        assert!(header.contains(&text), "malikoza.h lacks: {text}");
-        assert!(README.contains(&row), "README.md lacks: {row}");
-    }
-    assert_eq!(header.matches("return \"refusal ").count(), Refusal::ALL.len());
-}
-
-#[test]
-fn header_and_crate_have_the_same_limits() {
-    let limits = [("ROWS", crate::MAX_ROWS), ("STATIONS", crate::MAX_STATIONS), ("SAMPLES", crate::MAX_SAMPLES)];
-    for (name, limit) in limits {
-        assert!(HEADER.contains(&format!("MALIKOZA_MAX_{name} = {limit}")), "malikoza.h has another {name}");
-    }
-}
-
-/// What stands between two texts, the first time that the first of them comes.
-fn between<'a>(whole: &'a str, start: &str, end: &str) -> &'a str {
-    whole.split_once(start).and_then(|(_, rest)| rest.split_once(end)).expect("both texts").0
-}
-
-#[test]
-fn header_crate_and_changelog_have_the_same_version() {
-    let version = between(HEADER, "#define MALIKOZA_VERSION \"", "\"");
-    assert_eq!(between(include_str!("../Cargo.toml"), "version = \"", "\""), version);
-    assert_eq!(between(include_str!("../../../CHANGELOG.md"), "\n## ", "\n"), version);
 }
