@@ -98,20 +98,20 @@ static inline const char *malikoza_refusal_text(uint64_t number) {
     case 0: return "no refusal: the call was answered";
     case MALIKOZA_ROWS_LENGTH: return "refusal 1: a row is three doubles, and 256 rows are the most";
     case MALIKOZA_REQUEST_NUMBER:
-        return "refusal 2: tolerances must be finite and not negative, a_prev and the previous interval finite, no other bound NaN";
+        return "refusal 2: tolerances must be finite and not negative, a_prev and the previous interval finite, nothing else NaN";
     case MALIKOZA_PREVIOUS_STATION:
         return "refusal 3: the previous station's bounds must be finite, and a_prev must lie between them";
     case MALIKOZA_CURRENT_BOUNDS:
         return "refusal 4: the current station's bounds must be finite, and the lower one not above the upper";
     case MALIKOZA_ROW_NUMBER:
-        return "refusal 5: the numbers of a row must be finite, and neither too large nor too small to be worked with";
+        return "refusal 5: the numbers of every row must be finite, and so must its norm, 1/norm and tolerance";
     case MALIKOZA_ROW_IMPOSSIBLE:
         return "refusal 6: both coefficients of a row are zero and its rhs is below zero: no speed meets it";
     case MALIKOZA_PROJECTION_NOT_FINITE:
-        return "refusal 7: the cap fails, and the numbers of a row are too large to tell which speeds it allows";
-    case MALIKOZA_PROJECTION_EMPTY: return "refusal 8: the rows leave no speed between the bounds";
-    case MALIKOZA_MIDDLE_FAILS:
-        return "refusal 9: no speed was found: the end that the rows leave fails, and so do its neighbours and the middle";
+        return "refusal 7: the cap fails, and the numbers of a row are too large or too far apart to solve it for the speed";
+    case MALIKOZA_PROJECTION_EMPTY:
+        return "refusal 8: the rows, solved for the speed, leave nothing between the bounds";
+    case MALIKOZA_MIDDLE_FAILS: return "refusal 9: no speed was found: every one that was tried fails";
     case MALIKOZA_NOT_EIGHTS:
         return "refusal 10: the length of every byte list, output included, must be a multiple of eight";
     case MALIKOZA_STATION_COUNT: return "refusal 11: 2 to 4,096 stations are needed";
@@ -187,7 +187,7 @@ uint64_t malikoza_whole_part(uint64_t x);
  * the previous station likewise, and a_prev must lie between its two, compared within a_cmp_abs_tol and a_cmp_rel_tol.
  *
  * Writes the speed, the worst normalized and the worst raw residual (patterns), and the number of candidates tried, 1 to 71
- * (the number itself). Refuses with 10, then 1 to 9 in order; 9 doesn't say that no double passes. */
+ * (the number itself). Refuses with 10, then 1 to 9 in order; neither 8 nor 9 says that no double passes. */
 uint64_t malikoza_recover(uint64_t a_prev, uint64_t prev_lower, uint64_t prev_upper, uint64_t prev_cap,
                           uint64_t curr_lower, uint64_t curr_upper, uint64_t curr_cap,
                           uint64_t feas_tol, uint64_t a_cmp_abs_tol, uint64_t a_cmp_rel_tol,

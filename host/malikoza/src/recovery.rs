@@ -75,7 +75,7 @@ pub struct Recovered {
 ///
 /// # Errors
 ///
-/// Refusals 1 to 9; of several that hold, the first in that order. 9 doesn't say that no double passes.
+/// Refusals 1 to 9; of several that hold, the first in that order. Neither 8 nor 9 says that no double passes.
 pub fn recover(request: &Request, rows: &[[f64; 3]]) -> Result<Recovered, Refusal> {
     let q = request;
     let (rows, rows_len) = list(rows.as_flattened());
