@@ -7,7 +7,7 @@ use std::time::{Duration, Instant};
 
 pub struct Progress {
     began: Instant,
-    /// When the run ends, or by what its whole work is expected to take.
+    /// When the run ends.
     end: End,
     /// What the work that is done was expected to take, in nanoseconds of one thread.
     done: AtomicU64,
