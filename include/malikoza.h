@@ -8,9 +8,9 @@
  *   - many doubles as a byte list: a pointer, then a length in BYTES. Each double is eight bytes, low byte first. On x86-64
  *     an array of doubles is such a list already: pass (const uint8_t *)array and sizeof array. No alignment is needed.
  *
- * WARNING: C turns a double into a whole number without a word. malikoza_sqrt(2.0) is given the number 2, which is the
- * pattern of 2^-1073, and answers the root of that; malikoza_sqrt(malikoza_pattern(2.0)) is meant. gcc and clang tell of
- * it with -Wfloat-conversion, but not where the double is a constant without a fraction, as here.
+ * WARNING: C turns a double into a whole number, and back, without a word. malikoza_sqrt(2.0) is given the number 2, which
+ * is the pattern of 2^-1073, and answers the root of that; malikoza_double(malikoza_sqrt(malikoza_pattern(2.0))) is meant.
+ * gcc and clang tell of it with -Wconversion, but not where the double is a constant without a fraction, as here.
  *
  * NaN: every NaN pattern, of either sign and any payload, reads as NaN; a NaN is always written 7FF8000000000000.
  *
@@ -152,8 +152,8 @@ static inline double malikoza_double(uint64_t pattern) {
     return x;
 }
 
-/* Number leaves. They take and return patterns, write nothing and refuse nothing. "Nearest" is the closest double, ties to
- * even; an exact size of 2^1024 - 2^970 or more gives infinity. */
+/* Number leaves. They take and return patterns (malikoza_whole_part returns a number), write nothing and refuse nothing.
+ * "Nearest" is the closest double, ties to even; an exact size of 2^1024 - 2^970 or more gives infinity. */
 
 /* The double nearest to the square root of x; a zero and plus infinity give themselves, other negatives and NaN give NaN. */
 uint64_t malikoza_sqrt(uint64_t x);

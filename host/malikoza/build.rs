@@ -19,8 +19,12 @@ fn main() {
     println!("cargo:rustc-link-search=native={}", folder.display());
     if !archive.is_file() {
         eprintln!("There is no {}.", archive.display());
-        eprintln!("Make it with `rt staticlib malikoza` at the top of the repository;");
-        eprintln!("or set MALIKOZA_LIB_DIR to the full path of the folder that it is in.");
+        if env::var_os("MALIKOZA_LIB_DIR").is_some() {
+            eprintln!("MALIKOZA_LIB_DIR must be the full path of the folder that has libmalikoza.a, or not be set.");
+        } else {
+            eprintln!("Make it with `rt staticlib malikoza` at the top of the repository;");
+            eprintln!("or set MALIKOZA_LIB_DIR to the full path of the folder that it is in.");
+        }
         process::exit(1);
     }
 }

@@ -1,7 +1,7 @@
 //! The library's speed beside the Rust original's, on the same inputs in one run.
 //!
-//! `host/run speed` prints two tables; with words after it, only the operations whose names hold one of them, and the second table if `small` is among them.
-//! The first has for each operation the instructions for each unit of work (a station, a sample, a row and candidate, a call) of the original and of the
+//! `host/run speed` prints two tables; with words after it, only the operations whose names hold one of them (a_to_b is "a to b"), and the second table if
+//! `small` is among them. The first has for each operation the instructions for each unit of work (a station, a sample, a row and candidate, a call) of the original and of the
 //! library's entry, which takes byte lists, the ratio of the entry to the original, the ratio of their times, and the entry's instructions for each unit at a
 //! quarter, half and the whole of the size, which must not grow. The second has the time of small calls.
 //!
@@ -140,7 +140,7 @@ fn main() {
     if words.first().is_some_and(|word| word == COUNTED) {
         return run(&words[1..]);
     }
-    let asked = |work: &&Work| words.is_empty() || words.iter().any(|word| work.name.contains(word.as_str()));
+    let asked = |work: &&Work| words.is_empty() || words.iter().any(|word| work.name.contains(&word.replace('_', " ")));
     let chosen: Vec<&Work> = Work::ALL.iter().filter(asked).collect();
     if !chosen.is_empty() {
         table(&chosen);
