@@ -1,2 +1,3 @@
 pub mod Recover
+pub mod Steps
 pub mod Stations

@@ -3,3 +3,4 @@
 pub mod leaves;
 pub mod recover;
 pub mod stations;
+pub mod steps;

@@ -1,0 +1,4 @@
+-- Document 02, request 1: "Walk a whole strap."
+pub mod Walking
+pub mod StepDemand
+pub mod Committed
