@@ -1,4 +1,5 @@
 // The entries, called on a case.
+use crate::walks;
 use malikoza::leaves;
 use malikoza::recover::malikoza_recover;
 use malikoza::stations;
@@ -23,7 +24,7 @@ pub const THIRD: u64 = 0x2345_6789_abcd_ef01;
 
 pub const FOURTH: u64 = 0x3456_789a_bcde_f012;
 
-fn gathered(number: u64, first: u64, second: u64, third: u64, fourth: u64) -> Told {
+pub(crate) fn gathered(number: u64, first: u64, second: u64, third: u64, fourth: u64) -> Told {
     Told {
         number,
         first,
@@ -76,7 +77,7 @@ fn recover(case: &[u8], rows: &[u8]) -> Told {
 }
 
 // For the entries that are lent no numbers.
-fn only(number: u64) -> Told {
+pub(crate) fn only(number: u64) -> Told {
     gathered(number, FIRST, SECOND, THIRD, FOURTH)
 }
 
@@ -126,7 +127,9 @@ fn enter(case: &[u8], s: &[u8], a: &[u8], t: &[u8], x: &[u8], out: &mut [u8]) ->
         9 => only(stations::malikoza_a_to_b(s, a, out)),
         10 => only(stations::malikoza_s_to_t(s, a, word(case, 2), out)),
         11 => list(s, a, t, x, out),
-        _ => grid(case, s, a, t, out),
+        12 => grid(case, s, a, t, out),
+        13 => walks::start(case, out),
+        _ => walks::step(case, s, a, out),
     }
 }
 

@@ -50,9 +50,12 @@ fn lay_list(
 }
 
 // Behind the case's 22 numbers.
-fn lay_lists(case: &mut [u8], first: u64, n: u64, line: &[u8]) {
+fn lay_lists(case: &mut [u8], entry: u64, n: u64, line: &[u8]) {
+    let first = letters::first_list(entry);
+    let second = letters::second_list(entry);
+    let m = letters::second_length(entry, n);
     let s = lay_list(case, 176, 12, first, letters::LEN_S, n, line);
-    let a = lay_list(case, s, 13, letters::A, letters::LEN_A, n, line);
+    let a = lay_list(case, s, 13, second, letters::LEN_A, m, line);
     let t = lay_list(case, a, 14, letters::T, letters::LEN_T, n, line);
     lay_list(case, t, 15, letters::X, letters::LEN_X, 3, line);
 }
@@ -61,7 +64,7 @@ fn lay_lists(case: &mut [u8], first: u64, n: u64, line: &[u8]) {
 fn lay_call(case: &mut [u8], entry: u64, n: u64, line: &[u8]) {
     put(case, 1, entry);
     lay(case, 16, letters::passed(entry), 80, line);
-    lay_lists(case, letters::first_list(entry), n, line);
+    lay_lists(case, entry, n, line);
 }
 
 // The numbers 17 to 21: what the call must return, and the lent numbers after it.
@@ -93,10 +96,11 @@ fn is_answered(case: &[u8], line: &[u8], out: &mut [u8]) -> bool {
     false
 }
 
-// 4 doubles of output are lent, but where the line changes it.
+// As much output is lent as is usual, but where the line changes it.
 fn answered(case: &[u8], line: &[u8]) -> bool {
     let mut out = sheet();
-    let n = within(bytes_of(line, letters::LEN_OUT, 4) as u64, out.len());
+    let room = letters::room(word(case, 1));
+    let n = within(bytes_of(line, letters::LEN_OUT, room) as u64, out.len());
     is_answered(case, line, &mut out[0..n])
 }
 

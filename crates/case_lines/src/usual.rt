@@ -16,11 +16,32 @@ fn request(k: u64) -> f64 {
     }
 }
 
+// The start of such a walk: tolerances 0, speed 1, [0, 4] cap 9.
+fn walk(k: u64) -> f64 {
+    match k {
+        3 => 1.0,
+        5 => 4.0,
+        6 => 9.0,
+        _ => 0.0,
+    }
+}
+
+// The station that the next step comes to: [0, 4] cap 3.
+fn station(k: u64) -> f64 {
+    match k {
+        1 => 4.0,
+        2 => 3.0,
+        _ => 0.0,
+    }
+}
+
 // t0 0 and dt 1; rows 0; s 0, 1, 2, ..; a 0, 4, 0, 4, ..; t 0, 1, 2, ..; x 0, 1/32, 2/32, ..: so b is 2, -2, 2, .., and the times from 0 on are t.
 fn double(list: u64, k: u64) -> f64 {
     match list {
         letters::PASSED => if k == 1 { 1.0 } else { 0.0 },
         letters::REQUEST => request(k),
+        letters::STATION => station(k),
+        letters::WALK => walk(k),
         letters::ROWS => 0.0,
         letters::A => if k % 2 == 0 { 0.0 } else { 4.0 },
         letters::X => 0.03125 * std::num::nearest_u64_to_f64(k),
@@ -41,6 +62,9 @@ fn lent(k: u64) -> u64 {
 fn usual(list: u64, k: u64) -> u64 {
     if list == letters::LENT {
         return lent(k);
+    }
+    if list == letters::WALK && k == 7 {
+        return 1;
     }
     pattern_of(double(list, k))
 }

@@ -22,6 +22,8 @@ fn name(entry: usize) -> bool {
         10 => io::write_all(STDOUT_FILENO, b"malikoza_s_to_t: "),
         11 => io::write_all(STDOUT_FILENO, b"malikoza_t_to_s_list: "),
         12 => io::write_all(STDOUT_FILENO, b"malikoza_t_to_s_grid: "),
+        13 => io::write_all(STDOUT_FILENO, b"malikoza_walk_start: "),
+        14 => io::write_all(STDOUT_FILENO, b"malikoza_walk_step: "),
         _ => leaf_name(entry),
     }
 }
@@ -33,27 +35,27 @@ fn counts(cases: u64, differ: u64) {
     io::write_all(STDOUT_FILENO, b" differ\n");
 }
 
-// A tally has 13 numbers of cases, by entry, and then as many of those that differ: the sum of either.
-pub(crate) fn total(tally: &[u64; 26], from: usize) -> u64
-    requires { ⌜ from ≤ 13 ⌝ }
+// A tally has 15 numbers of cases, by entry, and then as many of those that differ: the sum of either.
+pub(crate) fn total(tally: &[u64; 30], from: usize) -> u64
+    requires { ⌜ from ≤ 15 ⌝ }
 {
     let mut sum = 0;
     let mut i = 0;
-    while i < 13 {
+    while i < 15 {
         sum = std::num::wrapping_add_u64(sum, tally[from + i]);
         i += 1;
     }
     sum
 }
 
-pub(crate) fn tell(tally: &[u64; 26]) {
+pub(crate) fn tell(tally: &[u64; 30]) {
     let mut i = 0;
-    while i < 13 {
+    while i < 15 {
         name(i);
-        counts(tally[i], tally[i + 13]);
+        counts(tally[i], tally[i + 15]);
         i += 1;
     }
-    counts(total(tally, 0), total(tally, 13));
+    counts(total(tally, 0), total(tally, 15));
 }
 
 // Where a case, or the file as a whole, does not keep its form.

@@ -5,10 +5,10 @@ use Rattle.replay.proofs.telling.total.Statement.{statement}
 use Rattle.replay.proofs.telling.total.Tie as tie
 
 abbrev Inv-loop : tie.InvT-loop
-Inv-loop tally from sum₀ i₀ sum i = i ≤ 13
+Inv-loop tally from sum₀ i₀ sum i = i ≤ 15
 
 abbrev μ-loop : tie.MeasureT-loop
-μ-loop tally from sum₀ i₀ sum i = 13 - i
+μ-loop tally from sum₀ i₀ sum i = 15 - i
 
 loop-holds : tie.Need-loop-holds Inv-loop μ-loop
 loop-holds c = omega arith
