@@ -1,7 +1,7 @@
 /* Malikoza tells a hot knife on a robot how fast it may go, and where it is when.
  *
  * Link with libmalikoza.a (x86-64). Every entry is total: nothing traps, nothing hangs, and what cannot be answered is
- * refused by a number. The entries keep no state, so several threads may call them at once.
+ * refused by a number. The entries keep no state, a walk's is the caller's: so several threads may call them at once.
  *
  * Doubles pass in two ways:
  *   - one double as its 64-bit pattern in a uint64_t: malikoza_pattern(x) makes it, malikoza_double(p) reads it;
@@ -15,7 +15,7 @@
  * NaN: every NaN pattern, of either sign and any payload, reads as NaN; a NaN is always written 7FF8000000000000.
  *
  * An entry that can refuse returns 0, or the refusal number, of which malikoza_refusal_text has a sentence. Success writes
- * the front of the output and no more; a refusal writes nothing, neither to the output nor to the numbers lent beside it.
+ * the front of the output and no more; a refusal writes nothing, neither to the output nor to what is lent beside it.
  * docs/RULES.md has every rule in full, with worked figures.
  *
  * The caller answers for what no entry can test:
@@ -31,6 +31,7 @@
  *                        small calls    the largest
  *   malikoza_s_to_t               40             40
  *   malikoza_recover              24             24
+ *   malikoza_walk_step            24             24
  *   every other entry     at most 16, the least thread that one can ask for
  */
 #ifndef MALIKOZA_H
@@ -41,13 +42,13 @@
 #include <string.h>
 
 /* CHANGELOG.md has what each version changes for a caller. */
-#define MALIKOZA_VERSION "0.2.0"
+#define MALIKOZA_VERSION "0.3.0"
 
 #ifdef __cplusplus
 extern "C" {
 #endif
 
-/* Limits. Stations are 2 at least, samples of a list 1. */
+/* Limits. A list has 2 stations at least, or 1 sample; a walk starts with 1 station. */
 enum {
     MALIKOZA_MAX_ROWS = 256,
     MALIKOZA_MAX_STATIONS = 4096,
@@ -89,7 +90,10 @@ enum {
     MALIKOZA_SAMPLE_NOT_FINITE = 26,
     MALIKOZA_SAMPLES_NOT_INCREASING = 27,
     MALIKOZA_TOO_MANY_SAMPLES = 28,
-    MALIKOZA_OUTPUT_TOO_SHORT = 29
+    MALIKOZA_OUTPUT_TOO_SHORT = 29,
+
+    /* A step of a walk, after 10 and before 1: */
+    MALIKOZA_WALK_FULL = 61
 };
 
 /* A refusal in words, with its number; and words for 0, which is none. */
@@ -134,6 +138,7 @@ static inline const char *malikoza_refusal_text(uint64_t number) {
     case MALIKOZA_SAMPLES_NOT_INCREASING: return "refusal 27: each sample must be later than the one before it";
     case MALIKOZA_TOO_MANY_SAMPLES: return "refusal 28: 65,536 samples are the most";
     case MALIKOZA_OUTPUT_TOO_SHORT: return "refusal 29: the output has too little room";
+    case MALIKOZA_WALK_FULL: return "refusal 61: the walk is full: 4,096 stations are the most";
     default: return "a refusal that this version does not know";
     }
 }
@@ -193,6 +198,33 @@ uint64_t malikoza_recover(uint64_t a_prev, uint64_t prev_lower, uint64_t prev_up
                           uint64_t feas_tol, uint64_t a_cmp_abs_tol, uint64_t a_cmp_rel_tol,
                           const uint8_t *rows, size_t rows_len,
                           uint64_t *speed, uint64_t *worst_normalized, uint64_t *worst_raw, uint64_t *tried);
+
+/* A walk: recovery from station to station, each step from the speed that the one before it committed.
+ *
+ * The caller holds the state. Words 0 to 2 are feas_tol, a_cmp_abs_tol and a_cmp_rel_tol, word 3 is the last committed
+ * speed, words 4 to 6 are the last station's lower, upper and cap, all of them patterns; word 7 is the count of stations,
+ * the start counted as 1 (the number itself). Any eight words are a state, and a copy of them is a walk of its own. */
+typedef struct malikoza_walk {
+    uint64_t word[8];
+} malikoza_walk;
+
+/* The start of a walk: its tolerances, the squared speed at its first station, and that station.
+ *
+ * Writes the eight words, with a count of 1. Refuses nothing, and tests nothing: the first step tests all of it, the start
+ * speed as a_prev. */
+void malikoza_walk_start(uint64_t feas_tol, uint64_t a_cmp_abs_tol, uint64_t a_cmp_rel_tol, uint64_t start_speed,
+                         uint64_t lower, uint64_t upper, uint64_t cap, malikoza_walk *walk);
+
+/* A step of a walk, to the station with this interval and cap, under these rows.
+ *
+ * Answers as malikoza_recover does if a_prev is the last committed speed, the previous station the last one, the current one
+ * that which is given, and the tolerances the walk's. Success writes the same four numbers, and moves the walk on: to the
+ * speed found, the station given and a count of one more. A refused step leaves the walk as it was, and may be tried again
+ * with other rows. Refuses with 10, then 61 where the count is 4,096 or more, then 1 to 9 in order. An interval's end that is
+ * infinite is no fault of the station that a step comes to, but the next step refuses it with 2. */
+uint64_t malikoza_walk_step(malikoza_walk *walk, uint64_t lower, uint64_t upper, uint64_t cap,
+                            const uint8_t *rows, size_t rows_len,
+                            uint64_t *speed, uint64_t *worst_normalized, uint64_t *worst_raw, uint64_t *tried);
 
 /* The acceleration along the path, 0.5*(a1 - a0)/(s1 - s0), between each pair of neighbouring stations.
  *

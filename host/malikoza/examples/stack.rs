@@ -7,7 +7,8 @@
 //! of 16 KiB is given 24 here: so each try has a thread of `ABOVE` bytes more, and uses them up before the call.
 
 use malikoza::{
-    a_to_b, recover, s_to_t, t_to_s_grid, t_to_s_list, Refusal, Request, Station, MAX_ROWS, MAX_SAMPLES, MAX_STATIONS,
+    a_to_b, recover, s_to_t, t_to_s_grid, t_to_s_list, Refusal, Request, Station, Tolerances, Walk, MAX_ROWS,
+    MAX_SAMPLES, MAX_STATIONS,
 };
 use std::hint::black_box;
 use std::process::{Command, Stdio};
@@ -61,6 +62,11 @@ const REQUEST: Request = Request {
     a_cmp_rel_tol: 0.0,
 };
 
+/// A walk whose next step, to the current station, is asked the same.
+fn walk() -> Walk {
+    Walk::start(Tolerances { feas_tol: 0.0, a_cmp_abs_tol: 0.0, a_cmp_rel_tol: 0.0 }, REQUEST.a_prev, REQUEST.prev)
+}
+
 type Call = fn(&mut Lists) -> Option<Refusal>;
 
 /// A leaf refuses nothing; its answer is kept so that the call is not left out.
@@ -70,7 +76,7 @@ fn kept(answer: f64) -> Option<Refusal> {
 }
 
 /// An answer of each entry, and refusals on the way to it: they may go deeper.
-const CALLS: [(&str, Call); 24] = [
+const CALLS: [(&str, Call); 28] = [
     ("no call", |_| None),
     ("sqrt", |l| kept(malikoza::sqrt(l.rows[0][0]))),
     ("fma", |l| kept(malikoza::fma(l.rows[0][0], l.rows[0][1], l.rows[0][2]))),
@@ -85,6 +91,14 @@ const CALLS: [(&str, Call); 24] = [
         recover(&REQUEST, &vec![[1.0, 0.0, 9.0]; l.rows.len()]).map(|found| assert!(found.tried == 1)).err()
     }),
     ("recover, a row that no speed meets", |l| recover(&REQUEST, &[&l.rows[1..], &[[-1.0, 0.0, -5.0]]].concat()).err()),
+    ("walk_start", |_| kept(walk().speed())),
+    ("walk_step, searched", |l| walk().step(REQUEST.curr, &l.rows).map(|found| assert!(found.tried > 6)).err()),
+    ("walk_step, cap passes", |l| {
+        walk().step(REQUEST.curr, &vec![[1.0, 0.0, 9.0]; l.rows.len()]).map(|found| assert!(found.tried == 1)).err()
+    }),
+    ("walk_step, a row that no speed meets", |l| {
+        walk().step(REQUEST.curr, &[&l.rows[1..], &[[-1.0, 0.0, -5.0]]].concat()).err()
+    }),
     ("a_to_b", |l| a_to_b(&l.s, &l.a, &mut l.out).err()),
     ("a_to_b, a of another length", |l| a_to_b(&l.s, &l.a[1..], &mut l.out).err()),
     ("s_to_t", |l| s_to_t(&l.s, &l.a, 0.0, &mut l.out).err()),

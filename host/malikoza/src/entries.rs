@@ -1,5 +1,7 @@
 //! The C entries, as include/malikoza.h declares them.
 
+use crate::walk::Walk;
+
 // SAFETY: these are the archive's entries with their own types. The leaves take and return numbers only, and are total.
 // Each other entry reads as many bytes behind a pointer as the length after it says, writes only behind pointers to mut,
 // and is total besides.
@@ -16,6 +18,14 @@ unsafe extern "C" {
     pub unsafe fn malikoza_recover(
         a_prev: u64, prev_lower: u64, prev_upper: u64, prev_cap: u64, curr_lower: u64, curr_upper: u64, curr_cap: u64,
         feas_tol: u64, a_cmp_abs_tol: u64, a_cmp_rel_tol: u64, rows: *const u8, rows_len: usize, speed: *mut u64,
+        worst_normalized: *mut u64, worst_raw: *mut u64, tried: *mut u64,
+    ) -> u64;
+    pub unsafe fn malikoza_walk_start(
+        feas_tol: u64, a_cmp_abs_tol: u64, a_cmp_rel_tol: u64, start_speed: u64, lower: u64, upper: u64, cap: u64,
+        walk: *mut Walk,
+    );
+    pub unsafe fn malikoza_walk_step(
+        walk: *mut Walk, lower: u64, upper: u64, cap: u64, rows: *const u8, rows_len: usize, speed: *mut u64,
         worst_normalized: *mut u64, worst_raw: *mut u64, tried: *mut u64,
     ) -> u64;
     pub unsafe fn malikoza_a_to_b(

@@ -6,6 +6,7 @@
 //! | function | answers |
 //! |---|---|
 //! | [`recover`] | the squared speed at a station that its cap and its rows allow, certified |
+//! | [`Walk`] | the same from station to station, each step from the speed that the one before it committed |
 //! | [`a_to_b`] | accelerations, from stations and squared speeds |
 //! | [`s_to_t`] | the time at each station |
 //! | [`t_to_s_list`], [`t_to_s_grid`] | where the knife is at given times, or on an even grid of times |
@@ -45,15 +46,17 @@ mod recovery;
 mod refusal;
 #[cfg(test)]
 mod tests;
+mod walk;
 
 pub use conversions::{a_to_b, s_to_t, t_to_s_grid, t_to_s_list, Counts};
 pub use leaves::{absolute, fma, hypot, maximum, minimum, next_down, sqrt, whole_part};
 pub use recovery::{recover, Recovered, Request, Station};
 pub use refusal::Refusal;
+pub use walk::{Tolerances, Walk};
 
 /// The most rows that a recovery takes.
 pub const MAX_ROWS: usize = 256;
-/// The most stations that a conversion takes; 2 are the fewest.
+/// The most stations that a conversion takes or a walk has; of a conversion 2 are the fewest.
 pub const MAX_STATIONS: usize = 4096;
 /// The most samples that a conversion takes, the final station of a grid not counted.
 pub const MAX_SAMPLES: usize = 65536;

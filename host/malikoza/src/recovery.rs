@@ -44,6 +44,26 @@ pub struct Recovered {
     pub tried: u64,
 }
 
+/// The four numbers of an answer as an entry writes them.
+#[derive(Default)]
+pub(crate) struct Written {
+    pub speed: u64,
+    pub worst_normalized: u64,
+    pub worst_raw: u64,
+    pub tried: u64,
+}
+
+impl Written {
+    pub(crate) fn recovered(&self) -> Recovered {
+        Recovered {
+            speed: f64::from_bits(self.speed),
+            worst_normalized: f64::from_bits(self.worst_normalized),
+            worst_raw: f64::from_bits(self.worst_raw),
+            tried: self.tried,
+        }
+    }
+}
+
 /// The squared speed at the current station that its cap and its rows allow, certified.
 ///
 /// A row is `coef_curr`, `coef_prev`, `rhs`: it admits the squared speed x if `coef_curr`·x + `coef_prev`·`a_prev` is
@@ -79,9 +99,10 @@ pub struct Recovered {
 pub fn recover(request: &Request, rows: &[[f64; 3]]) -> Result<Recovered, Refusal> {
     let q = request;
     let (rows, rows_len) = list(rows.as_flattened());
-    let (mut speed, mut worst_normalized, mut worst_raw, mut tried) = (0, 0, 0, 0);
+    let mut written = Written::default();
+    let Written { speed, worst_normalized, worst_raw, tried } = &mut written;
     // SAFETY: the rows' pointer and length are one slice's, and the numbers written are four of our own.
-    let number = unsafe {
+    refusal::none(unsafe {
         entries::malikoza_recover(
             q.a_prev.to_bits(),
             q.prev.lower.to_bits(),
@@ -95,17 +116,11 @@ pub fn recover(request: &Request, rows: &[[f64; 3]]) -> Result<Recovered, Refusa
             q.a_cmp_rel_tol.to_bits(),
             rows,
             rows_len,
-            &raw mut speed,
-            &raw mut worst_normalized,
-            &raw mut worst_raw,
-            &raw mut tried,
+            speed,
+            worst_normalized,
+            worst_raw,
+            tried,
         )
-    };
-    refusal::none(number)?;
-    Ok(Recovered {
-        speed: f64::from_bits(speed),
-        worst_normalized: f64::from_bits(worst_normalized),
-        worst_raw: f64::from_bits(worst_raw),
-        tried,
-    })
+    })?;
+    Ok(written.recovered())
 }

@@ -75,6 +75,7 @@ refusals! {
     27 SamplesNotIncreasing: "each sample must be later than the one before it",
     28 TooManySamples: "65,536 samples are the most",
     29 OutputTooShort: "the output has too little room",
+    61 WalkFull: "the walk is full: 4,096 stations are the most",
 }
 
 impl fmt::Display for Refusal {

@@ -1,7 +1,7 @@
-//! Each refusal once, by its number; and what a call leaves.
+//! Each refusal once, by its number; what a call leaves; and walks.
 
 use crate::entries::{self, list, list_mut};
-use crate::{owned, recover, Refusal, Request, Station};
+use crate::{owned, recover, Refusal, Request, Station, Tolerances, Walk, MAX_STATIONS};
 
 const S: [f64; 3] = [0.0, 1.0, 3.0];
 const A: [f64; 3] = [0.0, 4.0, 4.0];
@@ -16,6 +16,9 @@ const REQUEST: Request = Request {
     a_cmp_abs_tol: 0.0,
     a_cmp_rel_tol: 0.0,
 };
+
+/// The tolerances of the request above.
+const TOLERANCES: Tolerances = Tolerances { feas_tol: 0.0, a_cmp_abs_tol: 0.0, a_cmp_rel_tol: 0.0 };
 
 fn rows(rows: &[[f64; 3]]) -> Option<Refusal> {
     recover(&REQUEST, rows).err()
@@ -46,6 +49,16 @@ fn cut_list() -> Option<Refusal> {
     let (out, out_len) = list_mut(&mut out);
     // SAFETY: the first list is lent without its last byte; the rest is as it is.
     crate::refusal::none(unsafe { entries::malikoza_a_to_b(s, s_len - 1, a, a_len, out, out_len) }).err()
+}
+
+/// A walk of as many stations as there may be.
+fn full_walk() -> Walk {
+    let mut walk = Walk::start(TOLERANCES, REQUEST.a_prev, REQUEST.prev);
+    for count in 1..MAX_STATIONS {
+        assert_eq!(walk.count(), count);
+        assert_eq!(walk.step(REQUEST.curr, &[]).map(|found| found.speed), Ok(3.0));
+    }
+    walk
 }
 
 #[test]
@@ -80,9 +93,10 @@ fn each_refusal_has_its_number() {
         samples(&T, &[11.0, 11.0]),
         grid(1e-5),
         crate::s_to_t(&S, &A, 10.0, &mut [0.0; 2]).err(),
+        full_walk().step(REQUEST.curr, &[]).err(),
     ];
     let numbers: Vec<u64> = refused.iter().map(|refusal| refusal.map_or(0, Refusal::number)).collect();
-    assert_eq!(numbers, (1..=29).collect::<Vec<_>>());
+    assert_eq!(numbers, (1..=29).chain([61]).collect::<Vec<_>>());
     assert_eq!(refused.map(Option::unwrap), Refusal::ALL);
 }
 
@@ -115,4 +129,66 @@ fn a_number_that_is_not_known_is_told() {
     let unknown = crate::refusal::none(999).unwrap_err();
     assert_eq!((unknown, unknown.number()), (Refusal::Unknown(999), 999));
     assert_eq!(unknown.to_string(), "refusal 999: a number that this version does not know");
+}
+
+#[test]
+fn a_full_walk_is_refused_before_all_else() {
+    let full = full_walk();
+    let mut walk = full;
+    let nowhere = Station { lower: f64::NAN, upper: f64::NAN, cap: f64::NAN };
+    assert_eq!(walk.count(), MAX_STATIONS);
+    assert_eq!(walk.step(REQUEST.curr, &[[0.0; 3]; 257]), Err(Refusal::WalkFull));
+    assert_eq!(walk.step(nowhere, &[]), Err(Refusal::WalkFull));
+    assert_eq!(walk, full);
+}
+
+#[test]
+fn the_first_step_tests_the_start() {
+    let refused = |tolerances, speed| Walk::start(tolerances, speed, REQUEST.prev).step(REQUEST.curr, &[]).err();
+    assert_eq!(refused(TOLERANCES, 4.0), None);
+    assert_eq!(refused(TOLERANCES, 5.0), Some(Refusal::PreviousStation));
+    assert_eq!(refused(Tolerances { a_cmp_abs_tol: 1.0, ..TOLERANCES }, 5.0), None);
+    assert_eq!(refused(Tolerances { a_cmp_abs_tol: 0.2, ..TOLERANCES }, 5.0), Some(Refusal::PreviousStation));
+    assert_eq!(refused(Tolerances { a_cmp_rel_tol: 0.2, ..TOLERANCES }, 5.0), None);
+    assert_eq!(refused(Tolerances { feas_tol: -1.0, ..TOLERANCES }, 4.0), Some(Refusal::RequestNumber));
+}
+
+#[test]
+fn a_nan_at_the_start_is_kept_as_one_pattern() {
+    let started = |nan| {
+        let tolerances = Tolerances { feas_tol: nan, a_cmp_abs_tol: nan, a_cmp_rel_tol: nan };
+        Walk::start(tolerances, nan, Station { lower: nan, upper: nan, cap: nan })
+    };
+    let walk = started(f64::from_bits(0xFFF0_0000_0000_0001));
+    assert_eq!(walk, started(f64::from_bits(0x7FF8_0000_0000_0000)));
+    assert_eq!((walk.speed().to_bits(), walk.count()), (0x7FF8_0000_0000_0000, 1));
+}
+
+/// Steps that the cap, halvings and the projected end answer, and a refused one before each but the first.
+#[test]
+fn a_step_answers_as_recovery_does() {
+    let Request { a_prev, prev, feas_tol, a_cmp_abs_tol, a_cmp_rel_tol, .. } = REQUEST;
+    let mut walk = Walk::start(TOLERANCES, a_prev, prev);
+    assert_eq!((walk.speed(), walk.station(), walk.count()), (a_prev, prev, 1));
+    let steps: [(f64, &[[f64; 3]], _); 5] = [
+        (0.7, &[], Ok(1)),
+        (3.0, &[[0.0, 0.0, -1.0]], Err(Refusal::RowImpossible)),
+        (3.0, &[[4.0 / 7.0, 100.0, 71.0]], Ok(58)),
+        (f64::NAN, &[], Err(Refusal::RequestNumber)),
+        (3.0, &[[1.0, 0.0, 2.0]], Ok(2)),
+    ];
+    for (cap, rows, tried) in steps {
+        let (before, a_prev, prev) = (walk, walk.speed(), walk.station());
+        let curr = Station { lower: 0.25, upper: 4.0, cap };
+        let answer = walk.step(curr, rows);
+        assert_eq!(answer, recover(&Request { a_prev, prev, curr, feas_tol, a_cmp_abs_tol, a_cmp_rel_tol }, rows));
+        assert_eq!(answer.map(|found| found.tried), tried);
+        match answer {
+            Ok(found) => {
+                let after = (walk.speed(), walk.station(), walk.count());
+                assert_eq!(after, (found.speed, curr, before.count() + 1));
+            }
+            Err(_) => assert_eq!(walk, before),
+        }
+    }
 }
