@@ -6,7 +6,7 @@ use mathlib.Core.List.{List}
 use native.Mathlib.Omega.{arith}
 use lib.Dec.{ltb}
 use lib.ListN.{getD}
-use lib.Ieee.{Float, binary64, ofBits}
+use lib.Ieee.{binary64, ofBits}
 use Rattle.refusals.specs.Most.{mostStations}
 use Rattle.limits.specs.declared.request.Station.{Station}
 use Rattle.limits.specs.declared.request.Request.{Request}

@@ -10,7 +10,6 @@ use walk_words::step::leave;
 use walk_words::step::step_bytes;
 ghost use lib.Ieee.{binary64, ofBits};
 ghost use Rattle.requests.specs.FromPatterns.{stationOf, tolerancesOf};
-ghost use Rattle.walk_words.specs.Words.{walkOf};
 ghost use Rattle.malikoza.specs.Steps.{Starting, Stepping};
 
 // Writes the eight words, and refuses nothing.

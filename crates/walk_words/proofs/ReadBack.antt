@@ -8,7 +8,6 @@ use lib.ListN.{getD}
 use lib.Ieee.{Float, binary64, fits, ofBits, toBits}
 use lib.Ieee.Bits.{ofBits-fits, ofBits-toBits}
 use Rattle.limits.specs.declared.request.Station.{Station}
-use Rattle.limits.specs.declared.request.Tolerances.{Tolerances}
 use Rattle.search.specs.declared.answer.Answer.{Answer}
 use Rattle.search.specs.declared.answer.Answer.the-variants.{Certified, Refused}
 use Rattle.passing.specs.Demand.{Doubles}

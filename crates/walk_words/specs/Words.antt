@@ -4,7 +4,7 @@ use Prim.Native.Nat.{ℕ}
 use mathlib.Core.Bool.{cond}
 use mathlib.Core.List.{List, [], _∷_}
 use lib.ListN.{getD}
-use lib.Ieee.{Float, binary64, ofBits, toBits}
+use lib.Ieee.{binary64, ofBits, toBits}
 use Rattle.limits.specs.declared.request.Station.{Station}
 use Rattle.search.specs.declared.answer.Answer.{Answer}
 use Rattle.search.specs.declared.answer.Answer.the-variants.{Certified, Refused}

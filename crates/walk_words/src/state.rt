@@ -1,7 +1,5 @@
 // A walk's state as eight words: the patterns of feas_tol, a_cmp_abs_tol and a_cmp_rel_tol, of the last committed speed, of the last station's lower, upper and
 // cap; then the count of stations. Any eight words are a state.
-use limits::request::Station;
-use limits::request::Tolerances;
 use patterns::pattern::double_of;
 use patterns::pattern::pattern_of;
 use requests::from_patterns::station_of;
