@@ -12,6 +12,14 @@ extern "C" {
         feas_tol: u64, a_cmp_abs_tol: u64, a_cmp_rel_tol: u64, rows: *const u8, rows_len: usize, speed: *mut u64,
         worst_normalized: *mut u64, worst_raw: *mut u64, tried: *mut u64,
     ) -> u64;
+    fn malikoza_walk_start(
+        feas_tol: u64, a_cmp_abs_tol: u64, a_cmp_rel_tol: u64, start_speed: u64, lower: u64, upper: u64, cap: u64,
+        walk: *mut [u64; 8],
+    );
+    fn malikoza_walk_step(
+        walk: *mut [u64; 8], lower: u64, upper: u64, cap: u64, rows: *const u8, rows_len: usize, speed: *mut u64,
+        worst_normalized: *mut u64, worst_raw: *mut u64, tried: *mut u64,
+    ) -> u64;
     fn malikoza_a_to_b(s: *const u8, s_len: usize, a: *const u8, a_len: usize, out: *mut u8, out_len: usize) -> u64;
     fn malikoza_s_to_t(
         s: *const u8, s_len: usize, a: *const u8, a_len: usize, t0: u64, out: *mut u8, out_len: usize,
@@ -100,6 +108,22 @@ pub fn recover(rows: &[f64]) -> u64 {
     };
     assert_eq!(number, 0);
     c[3]
+}
+
+/// A walk of so many stations, each as that request's current one, with no rows.
+pub fn walk(stations: usize) {
+    let [zero, one, three, four, nine] = [0.0, 1.0, 3.0, 4.0, 9.0].map(f64::to_bits);
+    let ((list, len), mut walk, mut c) = (bytes(&[]), [0; 8], [0; 4]);
+    let [speed, normalized, raw, tried] = &mut c;
+    // SAFETY: as above, and the walk is eight words.
+    unsafe { malikoza_walk_start(zero, zero, zero, one, zero, four, nine, &raw mut walk) };
+    for _ in 1..stations {
+        // SAFETY: as above.
+        let number =
+            unsafe { malikoza_walk_step(&raw mut walk, zero, four, three, list, len, speed, normalized, raw, tried) };
+        assert_eq!(number, 0);
+    }
+    assert_eq!(walk[7], stations as u64);
 }
 
 #[inline]

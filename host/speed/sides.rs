@@ -38,13 +38,14 @@ pub struct Work {
 }
 
 impl Work {
-    pub const ALL: [Work; 9] = [
+    pub const ALL: [Work; 10] = [
         Work { name: "a to b", unit: "station", size: STATIONS as u64, run: a_to_b },
         Work { name: "s to t", unit: "station", size: STATIONS as u64, run: s_to_t },
         Work { name: "list", unit: "sample", size: SAMPLES as u64, run: list },
         Work { name: "grid", unit: "sample", size: SAMPLES as u64, run: grid },
         Work { name: "recovery that searches", unit: "row and candidate", size: ROWS as u64, run: search },
         Work { name: "recovery whose cap passes", unit: "row", size: ROWS as u64, run: cap },
+        Work { name: "walk without rows", unit: "station", size: STATIONS as u64, run: walk },
         Work { name: "sqrt", unit: "call", size: 4096, run: sqrt },
         Work { name: "fma", unit: "call", size: 4096, run: fma },
         Work { name: "hypot", unit: "call", size: 4096, run: hypot },
@@ -160,6 +161,15 @@ fn search(side: Side, n: usize) {
 
 fn cap(side: Side, n: usize) {
     PASSING.with(|kept| with_rows(kept, inputs::passing, n, side));
+}
+
+/// What every step pays: the original is called stage by stage, with the speed that it answered last.
+fn walk(side: Side, n: usize) {
+    let step = |a: f64| topp2_ra::way_in(&[], a, (0.0, 4.0), (0.0, 4.0), 9.0, 3.0, &NO_TOLERANCE).expect("a speed").0;
+    match side {
+        Side::Original => drop(black_box((1..n).fold(1.0, |a, _| step(black_box(a))))),
+        Side::Library => library::walk(n),
+    }
 }
 
 fn nothing(_: Side, n: usize) {
