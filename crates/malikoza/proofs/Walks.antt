@@ -32,7 +32,7 @@ pub starting : (feas abs rel speed lower upper cap : ℕ) {words : List ℕ}
 starting feas abs rel speed lower upper cap e = record {
   left = e;
   state = ap walkOf e ∙ start-reads feas abs rel speed lower upper cap;
-  committed = along _;
+  stage-by-stage = along _;
 }
 
 module _ (w : Walk) (s : Station) (rows : List ℕ) where

@@ -17,7 +17,7 @@ use Rattle.walk_words.specs.Words.{walkOf, wordsOf, steppedBytes, wordsLeft}
 pub record Starting (tolerances : Tolerances) (speed : Float) (station : Station) (words : List ℕ) : Type 0 where
   pub left : words ≡ wordsOf (started tolerances speed station)
   pub state : walkOf words ≡ started tolerances speed station
-  pub committed : StageByStage (started tolerances speed station)
+  pub stage-by-stage : StageByStage (started tolerances speed station)
 
 -- the reply to the step's answer; the words after it, which read as the walk after it
 pub record Stepping (old new : List ℕ) (s : Station) (rows : List ℕ) (number speed₀ speed normalized₀ normalized raw₀ raw tried₀ tried : ℕ) : Type 0 where

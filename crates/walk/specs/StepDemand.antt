@@ -17,13 +17,13 @@ use Rattle.walk.specs.declared.state.Walk.{Walk}
 use Rattle.walk.specs.Walking.{nextRequest, stepped}
 
 -- the speed x passes at the station that the walk comes to
-abbrev pub Passing : Walk → Station → List Float → Float → Type 0
-Passing w s l x = T (passes (nextRequest w s) (rowsOf l) x)
+abbrev pub PassesAt : Walk → Station → List Float → Float → Type 0
+PassesAt w s l x = T (passes (nextRequest w s) (rowsOf l) x)
 
 -- a field to a sentence
 pub record StepDemanded (w : Walk) (s : Station) (l : List Float) : Type 0 where
   -- "Passing doubles have no gap"
-  pub no-gap : (x y z : Float) → T (le x y) → T (le y z) → Passing w s l x → Passing w s l z → Passing w s l y
+  pub no-gap : (x y z : Float) → T (le x y) → T (le y z) → PassesAt w s l x → PassesAt w s l z → PassesAt w s l y
   -- "two lists joined pass exactly what both pass"
   pub join : (m : List Float) (x : Float) → length l % 3 ≡ 0
       → passes (nextRequest w s) (rowsOf (l ++ m)) x ≡ (passes (nextRequest w s) (rowsOf l) x && passes (nextRequest w s) (rowsOf m) x)

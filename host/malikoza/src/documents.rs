@@ -130,8 +130,16 @@ fn links(document: &str) -> Vec<&str> {
 
 #[test]
 fn links_lead_to_files() {
-    let documents =
-        ["README", "CHANGELOG", "docs/RULES", "docs/STATEMENTS", "docs/DECISIONS", "docs/DIFFERENCES", "docs/FIGURES"];
+    let documents = [
+        "README",
+        "CHANGELOG",
+        "docs/RULES",
+        "docs/STATEMENTS",
+        "docs/DECISIONS",
+        "docs/DIFFERENCES",
+        "docs/FIGURES",
+        "docs/landings/01-walk",
+    ];
     for document in documents.map(|name| format!("{name}.md")) {
         let folder = top().join(Path::new(&document).parent().expect("a folder"));
         for target in links(&text(&document)) {
