@@ -1,7 +1,7 @@
 //! One call of one entry, and everything it leaves behind.
 
 /// The C entries, leaves first.
-#[derive(Clone, Copy, PartialEq, Eq, Debug)]
+#[derive(Clone, Copy, PartialEq, Eq, PartialOrd, Ord, Debug)]
 pub enum Entry {
     Sqrt,
     Fma,
@@ -16,6 +16,8 @@ pub enum Entry {
     SToT,
     TToSList,
     TToSGrid,
+    WalkStart,
+    WalkStep,
 }
 
 impl Entry {
@@ -30,6 +32,7 @@ impl Entry {
         Entry::WholePart,
     ];
     pub const CONVERSIONS: [Entry; 4] = [Entry::AToB, Entry::SToT, Entry::TToSList, Entry::TToSGrid];
+    pub const WALK: [Entry; 2] = [Entry::WalkStart, Entry::WalkStep];
 
     /// The entry's name; its numbers (patterns, or the flag of the grid); its byte lists; and the four numbers it is lent, if any.
     pub fn names(self) -> (&'static str, &'static [&'static str], &'static [&'static str], &'static [&'static str]) {
@@ -45,6 +48,7 @@ impl Entry {
             "a_cmp_abs_tol",
             "a_cmp_rel_tol",
         ];
+        const START: &[&str] = &["feas_tol", "a_cmp_abs_tol", "a_cmp_rel_tol", "start_speed", "lower", "upper", "cap"];
         const FIGURES: &[&str] = &["speed", "worst_normalized", "worst_raw", "tried"];
         const COUNTS: &[&str] = &["before", "inside", "past", "written"];
         match self {
@@ -61,11 +65,14 @@ impl Entry {
             Entry::SToT => ("malikoza_s_to_t", &["t0"], &["s", "a"], &[]),
             Entry::TToSList => ("malikoza_t_to_s_list", &[], &["s", "a", "t", "samples"], COUNTS),
             Entry::TToSGrid => ("malikoza_t_to_s_grid", &["t0", "dt", "with_final"], &["s", "a", "t"], COUNTS),
+            Entry::WalkStart => ("malikoza_walk_start", START, &[], &[]),
+            Entry::WalkStep => ("malikoza_walk_step", &["lower", "upper", "cap"], &["rows", "walk"], FIGURES),
         }
     }
 }
 
-/// What one call is given: its numbers and byte lists in the order of its arguments, and the length of its output in bytes.
+/// What one call is given: its numbers and byte lists in the order of its arguments, and the length of its output in bytes. A walk's eight words are
+/// an output of 64 bytes; as they stand before a step they are its second list.
 #[derive(Clone, Debug)]
 pub struct Case {
     pub entry: Entry,
@@ -87,6 +94,14 @@ impl Case {
     /// The doubles of a list. Bytes left over at its end are refused (10) before any list is read.
     pub fn doubles(&self, place: usize) -> Vec<f64> {
         self.lists[place].chunks_exact(8).map(|b| f64::from_le_bytes(b.try_into().unwrap())).collect()
+    }
+
+    /// What the output holds before the call: the walk, if it is to go on; else something else at each place, so that bytes moved within it are seen as well.
+    pub fn output_before(&self) -> Vec<u8> {
+        match self.entry {
+            Entry::WalkStep => self.lists[1].clone(),
+            _ => (0..self.room).map(|i| (i.wrapping_mul(0x9e37_79b9) >> 7) as u8).collect(),
+        }
     }
 
     /// The whole input, patterns in hex.
@@ -133,20 +148,15 @@ pub struct Answer {
 /// What the lent numbers hold before the call.
 pub const LENT: [u64; 4] = [0x0123_4567_89ab_cdef, 0x1234_5678_9abc_def0, 0x2345_6789_abcd_ef01, 0x3456_789a_bcde_f012];
 
-/// What the output holds before the call: something else at each place, so that bytes moved within it are seen as well.
-pub fn marked(room: usize) -> Vec<u8> {
-    (0..room).map(|i| (i.wrapping_mul(0x9e37_79b9) >> 7) as u8).collect()
-}
-
 impl Answer {
     /// A refusal: everything lent is as it was.
-    pub fn refused(number: u64, room: usize) -> Answer {
-        Answer { number, lent: LENT, out: marked(room), strayed: false }
+    pub fn refused(number: u64, case: &Case) -> Answer {
+        Answer { number, lent: LENT, out: case.output_before(), strayed: false }
     }
 
     /// An answer that writes these doubles to the front of the output.
-    pub fn wrote(lent: [u64; 4], front: &[f64], room: usize) -> Answer {
-        let mut out = marked(room);
+    pub fn wrote(lent: [u64; 4], front: &[f64], case: &Case) -> Answer {
+        let mut out = case.output_before();
         for (place, x) in out.chunks_exact_mut(8).zip(front) {
             place.copy_from_slice(&pattern(*x).to_le_bytes());
         }

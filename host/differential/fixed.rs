@@ -1,9 +1,10 @@
 //! What every run tries, whatever its seed: short inputs exhaustively, and the limits.
 
-use crate::case::{Case, Entry};
+use crate::case::{Answer, Case, Entry};
 use crate::profiles;
 use crate::random;
 use crate::requests;
+use crate::walk_rules::{Walk, STATIONS};
 
 const INF: f64 = f64::INFINITY;
 const NAN: f64 = f64::NAN;
@@ -35,7 +36,7 @@ impl Digits {
 }
 
 /// The ways to make short inputs. Each reads its choices from the digits.
-pub const SHORT: [fn(&mut Digits) -> Case; 13] = [
+pub const SHORT: [fn(&mut Digits) -> Case; 18] = [
     one_row,
     two_rows,
     three_rows,
@@ -49,6 +50,11 @@ pub const SHORT: [fn(&mut Digits) -> Case; 13] = [
     three_stations,
     samples_of_three,
     grids_of_three,
+    starts,
+    steps_of_states,
+    steps_with_one_row,
+    steps_without_rows,
+    steps_by_tolerances,
 ];
 
 /// Case i of one way, or none when all choices were had.
@@ -97,7 +103,7 @@ pub fn short_leaf(leaf: Entry, i: u64) -> Option<[u64; 3]> {
 }
 
 /// Document 01's own request: "a_prev 1, previous [0, 4] cap 9, current [0, 4] cap 3".
-const REQUEST: [f64; 10] = [1.0, 0.0, 4.0, 9.0, 0.0, 4.0, 3.0, 0.0, 0.0, 0.0];
+pub const REQUEST: [f64; 10] = [1.0, 0.0, 4.0, 9.0, 0.0, 4.0, 3.0, 0.0, 0.0, 0.0];
 
 /// It, with a previous speed, a current interval and a feasibility tolerance to choose.
 fn request(digits: &mut Digits) -> [f64; 10] {
@@ -228,6 +234,85 @@ fn grids_of_three(digits: &mut Digits) -> Case {
     draft.case()
 }
 
+/// Two NaN that are not 7FF8000000000000: the least signaling one, and all bits set.
+const ODD: [u64; 2] = [random::INFINITY + 1, !0];
+
+fn starts(digits: &mut Digits) -> Case {
+    let [odd, other] = ODD;
+    let mut walk = Walk([0; 8]);
+    for word in &mut walk.0[..7] {
+        *word = digits.one(&[1f64.to_bits(), random::SIGN, random::SIGN | random::INFINITY, odd, other]);
+    }
+    walk.as_start()
+}
+
+/// Counts of stations at and beside the limit, and what no walk comes to.
+const COUNTS: [u64; 7] = [1, 0, STATIONS - 2, STATIONS - 1, STATIONS, STATIONS + 1, u64::MAX];
+
+/// Steps from odd states, which a refusal leaves as they are; of rows there are none, one, or bytes that make none.
+fn steps_of_states(digits: &mut Digits) -> Case {
+    let rows = digits.one(&[0, 24, 8, 7]);
+    let mut request = requests::Draft { numbers: REQUEST, rows: vec![[0.0; 3]] }.case();
+    request.lists[0].truncate(rows);
+    let mut walk = Walk::up_to(&request, digits.one(&COUNTS));
+    for place in 0..7 {
+        walk.0[place] = digits.one(&[walk.0[place], ODD[0], ODD[1]]);
+    }
+    walk.step_to(&request)
+}
+
+/// A request as a step.
+fn step(request: &Case, digits: &mut Digits) -> Case {
+    Walk::up_to(request, digits.one(&[1, STATIONS - 1, STATIONS])).step_to(request)
+}
+
+fn steps_with_one_row(digits: &mut Digits) -> Case {
+    step(&one_row(digits), digits)
+}
+
+fn steps_without_rows(digits: &mut Digits) -> Case {
+    let request = bounds_without_rows(digits);
+    Walk::up_to(&request, 1).step_to(&request)
+}
+
+fn steps_by_tolerances(digits: &mut Digits) -> Case {
+    step(&tolerances(digits), digits)
+}
+
+pub fn start_of_the_longest_walk() -> Case {
+    Walk::up_to(&requests::Draft { numbers: REQUEST, rows: vec![] }.case(), 1).as_start()
+}
+
+/// The next step after what the last call left behind: each is accepted until the walk is full, and then come those to be refused.
+pub fn step_of_the_longest_walk(after: &Answer, once_full: &mut impl Iterator<Item = Case>) -> Option<Case> {
+    let walk = Walk::read(&after.out);
+    if walk.count() >= STATIONS {
+        return Some(walk.step_to(&once_full.next()?));
+    }
+    assert_eq!(after.number, 0, "a step of the longest walk");
+    let (i, mut numbers) = (walk.count() as f64, REQUEST);
+    numbers[6] = 1.0 + 0.25 * (i % 9.0);
+    // no faster than 1 and half of the speed before, and every fifth station without rows
+    let rows = if i % 5.0 == 0.0 { vec![] } else { vec![[2.0, -1.0, 2.0], [0.0; 3]] };
+    Some(walk.step_to(&requests::Draft { numbers, rows }.case()))
+}
+
+/// What a full walk refuses with 61, "before 1": a good request, 257 rows, ends that are NaN, and both; and one with 10.
+pub fn once_full() -> Vec<Case> {
+    let mut cases = Vec::new();
+    for rows in [1, 257] {
+        for lower in [0.0, NAN] {
+            let mut numbers = REQUEST;
+            numbers[4] = lower;
+            cases.push(requests::Draft { numbers, rows: vec![[0.0; 3]; rows] }.case());
+        }
+    }
+    let mut left_over = cases[0].clone();
+    left_over.lists[0].pop();
+    cases.push(left_over);
+    cases
+}
+
 /// A profile of so many stations, at even times.
 fn even(entry: Entry, stations: usize) -> profiles::Draft {
     let list: Vec<f64> = (0..stations).map(|i| i as f64).collect();
@@ -235,7 +320,7 @@ fn even(entry: Entry, stations: usize) -> profiles::Draft {
     profiles::Draft::new(entry, list.clone(), a, list)
 }
 
-/// The limits: "2 to 4,096" stations, 65,536 samples, 256 rows, output exactly full and one short.
+/// The limits: "2 to 4,096" stations, 65,536 samples, 256 rows, 4,096 stations of a walk, output exactly full and one short.
 pub fn limits() -> Vec<Case> {
     let mut cases = Vec::new();
     for spare in [-1, 0, 1] {
@@ -256,9 +341,19 @@ pub fn limits() -> Vec<Case> {
         cases.push(requests::Draft { numbers, rows: vec![[0.0, 0.0, 0.0]; rows] }.case());
         cases.push(requests::Draft { numbers, rows: vec![[1.0, 0.0, 2.0]; rows] }.case());
     }
+    let steps: Vec<Case> = cases.iter().filter(|case| case.entry == Entry::Recover).flat_map(limits_of_steps).collect();
+    cases.extend(steps);
     let ragged: Vec<Case> = cases.iter().filter(|case| case.room < 1000).flat_map(ragged).collect();
     cases.extend(ragged);
     cases
+}
+
+/// A request as a step at and beside the limit of stations, to its own station and to one whose ends are NaN.
+fn limits_of_steps(request: &Case) -> Vec<Case> {
+    let mut nowhere = request.clone();
+    nowhere.numbers[4..7].fill(random::NAN);
+    let steps = |request: &Case| COUNTS.map(|count| Walk::up_to(request, count).step_to(request));
+    [steps(request), steps(&nowhere)].concat()
 }
 
 /// So many samples, as a list over 2 and over 4,096 stations, and as a grid with and without the final.
@@ -282,17 +377,18 @@ fn limits_of_sampling(samples: usize, spare: i64) -> Vec<Case> {
     cases
 }
 
-/// A call with one byte too many, and one with one too few, in each of its lists and in its output, if it has one.
+/// A call with one byte too many, and one with one too few, in each of its lists and in its output, if it has one. A walk is no list of bytes.
 fn ragged(case: &Case) -> Vec<Case> {
     let mut cases = Vec::new();
-    for place in 0..case.lists.len() {
+    let has_rows = matches!(case.entry, Entry::Recover | Entry::WalkStep);
+    for place in 0..if has_rows { 1 } else { case.lists.len() } {
         for len in [case.lists[place].len() + 1, case.lists[place].len().saturating_sub(1)] {
             let mut other = case.clone();
             other.lists[place].resize(len, 0);
             cases.push(other);
         }
     }
-    if case.entry != Entry::Recover {
+    if !has_rows {
         cases.extend([case.room + 1, case.room.saturating_sub(1)].map(|room| Case { room, ..case.clone() }));
     }
     cases

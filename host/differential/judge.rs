@@ -11,23 +11,28 @@ use crate::random::Random;
 use crate::recovery_rules::{recovery, Request, Way};
 use crate::slips::Slip;
 use crate::timing_rules::conversion;
+use crate::walk_rules;
 
-/// What document 01's rules say of a case that is no leaf.
+/// What the rules of documents 01 and 02 say of a case that is no leaf.
 pub fn expected(case: &Case, slip: Slip) -> (Answer, Option<Way>) {
     // 10: "a byte list, output included, of a length not divisible by eight; before all others"
     if case.lists.iter().map(Vec::len).chain([case.room]).any(|len| len % 8 != 0) {
-        return (Answer::refused(10, case.room), None);
+        return (Answer::refused(10, case), None);
     }
     match case.entry {
         Entry::Recover => recovery(case, slip),
+        Entry::WalkStart => (walk_rules::start(case), None),
+        Entry::WalkStep => walk_rules::step(case, slip),
         _ => (conversion(case, slip), None),
     }
 }
 
 /// "The domain of those runs is every input not refused with 1, 10, 28, 29, 11 for too many stations, or 2 for a comparison tolerance."
+/// Nor does the original know a full walk (61), or a walk's start: it is called stage by stage.
 fn is_in_the_domain(case: &Case, number: u64) -> bool {
     match number {
-        1 | 10 | 28 | 29 => false,
+        0 => case.entry != Entry::WalkStart,
+        1 | 10 | 28 | 29 | 61 => false,
         11 => case.lists[0].len() / 8 < 2,
         2 => !Request::of(case).refused_for_a_comparison_tolerance(),
         _ => true,
@@ -42,7 +47,7 @@ struct Original {
 
 fn original(case: &Case, slip: Slip) -> Option<Original> {
     let mut answer = match case.entry {
-        Entry::Recover => original_recovery(case),
+        Entry::Recover | Entry::WalkStep => original_recovery(case),
         _ => original_conversion(case).map(|doubles| Original { doubles, tried: 0 }),
     };
     if let (Slip::OriginalOff, Some(first)) = (slip, answer.as_mut().and_then(|a| a.doubles.first_mut())) {
@@ -89,7 +94,7 @@ fn agrees(case: &Case, ours: &Answer, original: &Option<Original>) -> bool {
     let in_output = |doubles: &[f64]| doubles.iter().enumerate().all(|(i, x)| alike(ours.pattern_at(i), *x));
     ours.number == 0
         && match case.entry {
-            Entry::Recover => {
+            Entry::Recover | Entry::WalkStep => {
                 doubles.iter().zip(ours.lent).all(|(x, pattern)| alike(pattern, *x)) && ours.lent[3] == *tried
             }
             Entry::AToB | Entry::SToT => in_output(doubles),
@@ -110,9 +115,10 @@ pub enum Difference {
     InAnotherOrder,
 }
 
-/// What document 01's rules say of a case, and what was compared.
+/// What the rules say of a case, what the library left behind, and what was compared.
 pub struct Compared {
     pub wanted: Answer,
+    pub ours: Answer,
     pub way: Option<Way>,
     pub with_original: bool,
     pub in_another_order: bool,
@@ -120,21 +126,26 @@ pub struct Compared {
 }
 
 pub fn compared(case: &Case, slip: Slip) -> Compared {
-    let (wanted, way) = expected(case, slip);
+    compared_apart(case, case, slip)
+}
+
+/// The library is asked one case, the rules and the original another: the same, or the same step from the walk as each side has it.
+pub fn compared_apart(case: &Case, ruled: &Case, slip: Slip) -> Compared {
+    let (wanted, way) = expected(ruled, slip);
     let ours = library::call(case);
-    let with_original = is_in_the_domain(case, wanted.number);
+    let with_original = is_in_the_domain(ruled, wanted.number);
     let turned = turned(case);
     let in_another_order = turned.is_some();
     let difference = if ours != wanted {
         Some(Difference::FromRules)
-    } else if original_agrees(case, &ours, slip) == Some(false) {
+    } else if original_agrees(ruled, &ours, slip) == Some(false) {
         Some(Difference::FromOriginal)
     } else if turned.is_some_and(|turned| library::call(&turned) != ours) {
         Some(Difference::InAnotherOrder)
     } else {
         None
     };
-    Compared { wanted, way, with_original, in_another_order, difference }
+    Compared { wanted, ours, way, with_original, in_another_order, difference }
 }
 
 /// Whether any two sides differ, for a leaf too.
@@ -150,11 +161,9 @@ pub fn sides(case: &Case, slip: Slip) -> String {
     if Entry::LEAVES.contains(&case.entry) {
         return leaves::difference(case, slip).unwrap_or_default();
     }
-    let ours = library::call(case);
-    let Compared { wanted, difference, with_original, .. } = compared(case, slip);
-    let mut lines =
-        vec![format!("  library: {}", told(case, &ours)), format!("  document 01: {}", told(case, &wanted))];
-    lines.extend(unlike_places(&ours, &wanted));
+    let Compared { wanted, ours, difference, with_original, .. } = compared(case, slip);
+    let mut lines = vec![format!("  library: {}", told(case, &ours)), format!("  rules: {}", told(case, &wanted))];
+    lines.extend(unlike_places(case, &ours, &wanted));
     if with_original {
         lines.push(match original(case, slip) {
             None => "  original: refused".to_string(),
@@ -172,11 +181,11 @@ pub fn sides(case: &Case, slip: Slip) -> String {
 }
 
 /// The same rows in another order and number, if there are whole rows and not too many. Demand 3: "If two lists of at most 256 whole rows hold the same rows, in
-/// any order or number, recovery answers the same bits."
+/// any order or number, recovery answers the same bits." Document 02: "Demand 3 holds for each step."
 fn turned(case: &Case) -> Option<Case> {
     const ROW: usize = 24;
     const MOST: usize = 256;
-    if case.entry != Entry::Recover || case.lists[0].len() % ROW != 0 {
+    if !matches!(case.entry, Entry::Recover | Entry::WalkStep) || case.lists[0].len() % ROW != 0 {
         return None;
     }
     let rows: Vec<&[u8]> = case.lists[0].chunks_exact(ROW).collect();
@@ -196,8 +205,9 @@ fn turned(case: &Case) -> Option<Case> {
     for i in (1..places.len()).rev() {
         places.swap(i, random.place(i + 1));
     }
-    let list = places.iter().flat_map(|i| rows[*i]).copied().collect();
-    Some(Case { lists: vec![list], ..case.clone() })
+    let mut turned = case.clone();
+    turned.lists[0] = places.iter().flat_map(|i| rows[*i]).copied().collect();
+    Some(turned)
 }
 
 /// An answer in words, but for its output.
@@ -218,8 +228,8 @@ fn told(case: &Case, answer: &Answer) -> String {
 const SHOWN: usize = 8;
 
 /// The first places of the output that differ.
-fn unlike_places(ours: &Answer, wanted: &Answer) -> Vec<String> {
-    let before = Answer::refused(0, ours.out.len());
+fn unlike_places(case: &Case, ours: &Answer, wanted: &Answer) -> Vec<String> {
+    let before = Answer::refused(0, case);
     let at = |answer: &Answer, i| {
         if answer.pattern_at(i) == before.pattern_at(i) {
             "untouched".to_string()
@@ -228,10 +238,7 @@ fn unlike_places(ours: &Answer, wanted: &Answer) -> Vec<String> {
         }
     };
     let unlike = (0..ours.out.len() / 8).filter(|i| ours.pattern_at(*i) != wanted.pattern_at(*i));
-    unlike
-        .take(SHOWN)
-        .map(|i| format!("  output at {i}: library {}, document 01 {}", at(ours, i), at(wanted, i)))
-        .collect()
+    unlike.take(SHOWN).map(|i| format!("  output at {i}: library {}, rules {}", at(ours, i), at(wanted, i))).collect()
 }
 
 fn in_hex(doubles: &[f64]) -> String {

@@ -1,6 +1,7 @@
 //! The library, called through its C entries.
 
-use crate::case::{marked, Answer, Case, Entry, LENT};
+use crate::case::{Answer, Case, Entry, LENT};
+use crate::walk_rules::Walk;
 
 #[link(name = "malikoza", kind = "static")]
 extern "C" {
@@ -30,6 +31,14 @@ extern "C" {
         s: *const u8, s_len: usize, a: *const u8, a_len: usize, t: *const u8, t_len: usize, t0: u64, dt: u64,
         with_final: u8, out: *mut u8, out_len: usize, before: *mut u64, inside: *mut u64, past: *mut u64,
         written: *mut u64,
+    ) -> u64;
+    fn malikoza_walk_start(
+        feas_tol: u64, a_cmp_abs_tol: u64, a_cmp_rel_tol: u64, start_speed: u64, lower: u64, upper: u64, cap: u64,
+        walk: *mut u64,
+    );
+    fn malikoza_walk_step(
+        walk: *mut u64, lower: u64, upper: u64, cap: u64, rows: *const u8, rows_len: usize, speed: *mut u64,
+        worst_normalized: *mut u64, worst_raw: *mut u64, tried: *mut u64,
     ) -> u64;
 }
 
@@ -83,10 +92,38 @@ impl Rimmed {
     }
 }
 
-/// The call of a recovery or a conversion, with everything it leaves behind.
+/// A walk's eight words with one on either side, which may not change.
+struct RimmedWalk([u64; 10]);
+
+impl RimmedWalk {
+    const RIM: u64 = 0xa5a5_a5a5_a5a5_a5a5;
+
+    fn new(walk: &Walk) -> RimmedWalk {
+        let mut all = [RimmedWalk::RIM; 10];
+        all[1..9].copy_from_slice(&walk.0);
+        RimmedWalk(all)
+    }
+
+    fn inner(&self) -> Walk {
+        Walk(std::array::from_fn(|i| self.0[1 + i]))
+    }
+
+    fn pointer(&mut self) -> *mut u64 {
+        self.0.as_mut_ptr().wrapping_add(1)
+    }
+
+    fn rim_is_whole(&self) -> bool {
+        [self.0[0], self.0[9]] == [RimmedWalk::RIM; 2]
+    }
+}
+
+/// The call of an entry that is no leaf, with everything it leaves behind.
 pub fn call(case: &Case) -> Answer {
+    if Entry::WALK.contains(&case.entry) {
+        return call_of_walk(case);
+    }
     let mut given: Vec<Rimmed> = case.lists.iter().map(|list| Rimmed::new(list)).collect();
-    let mut out = Rimmed::new(&marked(case.room));
+    let mut out = Rimmed::new(&case.output_before());
     let mut lent = LENT;
     let number = enter(case, &mut given, &mut out, &mut lent);
     let kept = given.iter().zip(&case.lists).all(|(list, before)| list.rim_is_whole() && list.inner() == before);
@@ -121,7 +158,31 @@ fn enter(case: &Case, given: &mut [Rimmed], out: &mut Rimmed, lent: &mut [u64; 4
                 let ((s, s_len), (a, a_len), (t, t_len)) = (list(0), list(1), list(2));
                 malikoza_t_to_s_grid(s, s_len, a, a_len, t, t_len, n[0], n[1], n[2] as u8, to, room, w, x, y, z)
             }
-            leaf => unreachable!("{leaf:?} is a leaf"),
+            other => unreachable!("{other:?} is a leaf or a walk's"),
         }
+    }
+}
+
+/// The call of a walk's start or step; the eight words it leaves behind are its output.
+fn call_of_walk(case: &Case) -> Answer {
+    let mut walk = RimmedWalk::new(&Walk::read(&case.output_before()));
+    let rows = case.lists.first().map_or(&[][..], Vec::as_slice);
+    let mut given = Rimmed::new(rows);
+    let mut lent = LENT;
+    let number = enter_walk(case, walk.pointer(), &mut given, &mut lent);
+    let kept = given.rim_is_whole() && given.inner() == rows && walk.rim_is_whole();
+    Answer { number, lent, strayed: !kept, out: walk.inner().bytes() }
+}
+
+fn enter_walk(case: &Case, walk: *mut u64, rows: &mut Rimmed, lent: &mut [u64; 4]) -> u64 {
+    let n = &case.numbers;
+    let [speed, normalized, raw, tried] = lent;
+    // SAFETY: behind `walk` are eight words and behind the rows' pointer the bytes of its length, and the four numbers are four different ones.
+    unsafe {
+        if case.entry == Entry::WalkStart {
+            malikoza_walk_start(n[0], n[1], n[2], n[3], n[4], n[5], n[6], walk);
+            return 0;
+        }
+        malikoza_walk_step(walk, n[0], n[1], n[2], rows.pointer(), rows.len, speed, normalized, raw, tried)
     }
 }

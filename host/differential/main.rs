@@ -1,13 +1,14 @@
-//! The library beside the Rust original and document 01's rules.
+//! The library beside the Rust original and the rules of documents 01 and 02.
 //!
 //! `host/run differential [NAME=VALUE ..]` calls the library through its C entries and compares everything each call leaves behind: the refusal number, every
-//! double by pattern, every count, and every byte that was written or must not have been. It prints how often each number and each way of answering came, and
-//! last "N compared, M differ"; it fails if M is not 0. A difference is shrunk and printed in full.
+//! double by pattern, every count, and every byte that was written or must not have been. Whole walks go step by step: the library from the eight words it left
+//! behind, the rules from their own state, and the original is called stage by stage. It prints how often each number and each way of answering came, and last
+//! "N compared, M differ"; it fails if M is not 0. A difference is shrunk and printed in full.
 //!
 //! | argument | meaning |
 //! |---|---|
 //! | minutes=10 | how long to run, if no count is given |
-//! | leaves=N recoveries=N conversions=N | exact counts in place of a time; what is not named is left out |
+//! | leaves=N recoveries=N conversions=N walks=N | exact counts in place of a time; what is not named is left out |
 //! | fixed=no | leaves out the short inputs and the limits, which are the same in every run |
 //! | seed=N | what the generated inputs follow from |
 //! | threads=1 | they change the time only, not what is tried (with counts) |
@@ -35,9 +36,12 @@ mod shrink;
 mod slips;
 mod tally;
 mod timing_rules;
+mod walk_rules;
+mod walks;
 
 use run::Plan;
 use slips::Slip;
+use tally::Tally;
 
 fn number(value: &str) -> u64 {
     value.parse().unwrap_or_else(|_| fail(&format!("{value} is no whole number")))
@@ -55,12 +59,22 @@ fn list_slips() -> ! {
     std::process::exit(0)
 }
 
+/// A run with a slip: generated inputs for a minute at most, and if they do not show it, those that are the same in every run.
+fn tried(plan: &Plan, slip: Slip) -> Tally {
+    let generated = Plan { slip, quiet: true, seconds: 60.0, fixed: false, ..plan.clone() };
+    let tally = run::run(&generated);
+    if tally.differ > 0 || !plan.fixed {
+        return tally;
+    }
+    run::run(&Plan { fixed: true, seconds: 0.0, counts: None, ..generated })
+}
+
 /// Whether the comparison notices each slip.
 fn try_each_slip(plan: &Plan) -> ! {
     eprintln!("{} slips, a minute each at most", Slip::ALL.len());
     let mut missed = 0;
     for (name, slip, _) in Slip::ALL {
-        let tally = run::run(&Plan { slip, quiet: true, seconds: 60.0, ..plan.clone() });
+        let tally = tried(plan, slip);
         println!(
             "{name}: {} after {} compared",
             if tally.differ > 0 { "noticed" } else { "NOT NOTICED" },
@@ -80,6 +94,7 @@ fn plan() -> Plan {
             ("leaves", n) => plan.counts.get_or_insert_default()[0] = number(n),
             ("recoveries", n) => plan.counts.get_or_insert_default()[1] = number(n),
             ("conversions", n) => plan.counts.get_or_insert_default()[2] = number(n),
+            ("walks", n) => plan.counts.get_or_insert_default()[3] = number(n),
             ("fixed", "no") => plan.fixed = false,
             ("seed", n) => plan.seed = number(n),
             ("threads", n) => plan.threads = number(n).max(1),

@@ -1,10 +1,11 @@
 //! Recovery, straight from document 01's section of that name: number, figures, candidates tried, and the way the answer was found.
 
-use crate::case::{pattern, Answer, Case};
+use crate::case::{pattern, Answer, Case, Entry};
 #[allow(unused_imports)]
 use crate::original::completed::NextDown;
 use crate::original::hypot;
 use crate::slips::Slip;
+use crate::walk_rules::{self, Walk};
 
 /// The way to an answer.
 #[derive(Clone, Copy, PartialEq, Eq, Debug)]
@@ -32,15 +33,19 @@ pub struct Request {
 }
 
 impl Request {
+    /// The request of a recovery, or of a step.
     pub fn of(case: &Case) -> Request {
-        let n = |place: usize| case.number(place);
+        let n = match case.entry {
+            Entry::WalkStep => Walk::read(&case.lists[1]).request(walk_rules::station(case)),
+            _ => std::array::from_fn(|place| case.number(place)),
+        };
         Request {
-            a_prev: n(0),
-            prev: Station { lower: n(1), upper: n(2), cap: n(3) },
-            curr: Station { lower: n(4), upper: n(5), cap: n(6) },
-            feas_tol: n(7),
-            a_cmp_abs_tol: n(8),
-            a_cmp_rel_tol: n(9),
+            a_prev: n[0],
+            prev: Station { lower: n[1], upper: n[2], cap: n[3] },
+            curr: Station { lower: n[4], upper: n[5], cap: n[6] },
+            feas_tol: n[7],
+            a_cmp_abs_tol: n[8],
+            a_cmp_rel_tol: n[9],
         }
     }
 
@@ -313,13 +318,13 @@ pub fn recovered(q: &Request, numbers: &[f64], slip: Slip) -> Result<Recovered, 
     Search { q, rows: &rows, lower, upper, slip, tried: 0 }.found()
 }
 
-/// What a recovery must leave behind, and the way to its answer.
+/// What a recovery must leave behind, and the way to its answer; of a step, all but the walk.
 pub fn recovery(case: &Case, slip: Slip) -> (Answer, Option<Way>) {
     match recovered(&Request::of(case), &case.doubles(0), slip) {
         Ok(Recovered { passing, way, tried, .. }) => {
             let lent = [pattern(passing.x), pattern(passing.normalized), pattern(passing.raw), tried];
-            (Answer::wrote(lent, &[], case.room), Some(way))
+            (Answer::wrote(lent, &[], case), Some(way))
         }
-        Err(number) => (Answer::refused(number, case.room), None),
+        Err(number) => (Answer::refused(number, case), None),
     }
 }

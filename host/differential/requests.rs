@@ -37,14 +37,51 @@ impl Draft {
 pub fn case(random: &mut Random) -> Case {
     match random.below(16) {
         0 => any_patterns(random).case(),
-        1..=4 => damaged(random),
-        5 | 6 => searching(random).case(),
+        kind => varied(kind, structured(random), random),
+    }
+}
+
+/// A structured request as it is, damaged, or with rows that are to be searched through.
+fn varied(kind: u64, draft: Draft, random: &mut Random) -> Case {
+    match kind {
+        1..=4 => damaged(draft, random),
+        5 | 6 => searching(draft, random).case(),
         7 => {
-            let draft = searching(random);
+            let draft = searching(draft, random);
             with_its_answer_in_the_middle(draft, random).case()
         }
-        _ => structured(random).case(),
+        _ => draft.case(),
     }
+}
+
+/// A request whose previous station, speed and tolerances are to start a walk: mostly good ones.
+pub fn before_a_walk(random: &mut Random) -> Case {
+    let mut draft = without_rows(random);
+    if random.one_in(16) {
+        damage(&mut draft, 2 + random.below(2), random);
+    }
+    draft.case()
+}
+
+/// Puts a current station of a size like the previous one's into a request.
+pub fn follow(draft: &mut Draft, random: &mut Random) {
+    let n = &mut draft.numbers;
+    let last = minimum(n[PREV_UPPER], n[PREV_CAP]);
+    let scale = if last > 0.0 && last.is_finite() { 0.25 * last } else { 1.0 };
+    put_station(n, scale, (0.5 + random.unit()) * 4.0 * scale, random);
+    // as an end of the previous interval it would be refused ever after
+    if n[CURR_LOWER] == f64::NEG_INFINITY && !random.one_in(64) {
+        n[CURR_LOWER] = -scale;
+    }
+    if random.one_in(32) {
+        n[random.choose(&[CURR_LOWER, CURR_UPPER, CURR_CAP])] = random.edge();
+    }
+}
+
+/// A request with rows, mostly such that it is answered.
+pub fn with_rows(mut draft: Draft, random: &mut Random) -> Case {
+    draft.rows = rows(&draft, random);
+    varied(4 + random.below(12), draft, random)
 }
 
 fn any_patterns(random: &mut Random) -> Draft {
@@ -90,17 +127,19 @@ fn scale(random: &mut Random) -> f64 {
 }
 
 fn structured(random: &mut Random) -> Draft {
+    let mut draft = without_rows(random);
+    draft.rows = rows(&draft, random);
+    draft
+}
+
+fn without_rows(random: &mut Random) -> Draft {
     let scale = scale(random);
     let cap = (0.5 + random.unit()) * 4.0 * scale;
     let mut numbers = [0.0; 10];
     numbers[A_PREV] = random.unit() * scale;
     numbers[PREV_UPPER] = 4.0 * scale;
     numbers[PREV_CAP] = random.choose(&[9.0 * scale, 4.0 * scale, f64::INFINITY, 3.0 * scale]);
-    let within = random.unit() * cap;
-    numbers[CURR_LOWER] =
-        random.choose(&[0.0, 0.0, -0.0, -scale, f64::NEG_INFINITY, within, within, cap, stepped(cap, -3)]);
-    (numbers[CURR_UPPER], numbers[CURR_CAP]) =
-        random.choose(&[(cap, 9.0 * scale), (4.0 * cap, cap), (cap, f64::INFINITY), (cap, cap)]);
+    put_station(&mut numbers, scale, cap, random);
     for place in TOLERANCES {
         numbers[place] = tolerance(random);
     }
@@ -111,8 +150,20 @@ fn structured(random: &mut Random) -> Draft {
     if random.one_in(16) {
         hair_outside(&mut draft, random);
     }
-    draft.rows = (0..row_count(random)).map(|_| row(&draft, random)).collect();
     draft
+}
+
+/// The current station: bounds of a size, and which of them is the cap.
+fn put_station(numbers: &mut [f64; 10], scale: f64, cap: f64, random: &mut Random) {
+    let within = random.unit() * cap;
+    numbers[CURR_LOWER] =
+        random.choose(&[0.0, 0.0, -0.0, -scale, f64::NEG_INFINITY, within, within, cap, stepped(cap, -3)]);
+    (numbers[CURR_UPPER], numbers[CURR_CAP]) =
+        random.choose(&[(cap, 9.0 * scale), (4.0 * cap, cap), (cap, f64::INFINITY), (cap, cap)]);
+}
+
+fn rows(draft: &Draft, random: &mut Random) -> Vec<[f64; 3]> {
+    (0..row_count(random)).map(|_| row(draft, random)).collect()
 }
 
 /// Few rows, mostly.
@@ -126,8 +177,7 @@ fn row_count(random: &mut Random) -> u64 {
 
 /// A request whose cap fails, and whose projected end may be off by many doubles: each row has a tiny coefficient of the current speed, so that one last place of
 /// a residual is many of the speed.
-fn searching(random: &mut Random) -> Draft {
-    let mut draft = structured(random);
+fn searching(mut draft: Draft, random: &mut Random) -> Draft {
     draft.numbers[CURR_LOWER] = 0.0;
     let (a_prev, cap) = (draft.numbers[A_PREV], draft.upper());
     draft.rows = (0..1 + row_count(random))
@@ -188,9 +238,8 @@ fn with_its_answer_in_the_middle(mut draft: Draft, random: &mut Random) -> Draft
     draft
 }
 
-/// A structured request damaged in one to three of the ways that refusals 1 to 10 name, so that their order shows.
-fn damaged(random: &mut Random) -> Case {
-    let mut draft = structured(random);
+/// A request damaged in one to three of the ways that refusals 1 to 10 name, so that their order shows.
+fn damaged(mut draft: Draft, random: &mut Random) -> Case {
     let mut case_damage = None;
     for _ in 0..random.choose(&[1, 1, 2, 3]) {
         match 1 + random.below(10) {

@@ -1,8 +1,8 @@
 //! Goes through the plan of a run, in one or more threads.
 
-use crate::case::{Case, Entry};
+use crate::case::{Answer, Case, Entry};
 use crate::fixed;
-use crate::judge;
+use crate::judge::{self, Compared};
 use crate::leaves;
 use crate::profiles;
 use crate::progress::{End, Progress};
@@ -11,6 +11,7 @@ use crate::requests;
 use crate::shrink;
 use crate::slips::Slip;
 use crate::tally::Tally;
+use crate::walks;
 use std::sync::atomic::Ordering;
 use std::time::Instant;
 
@@ -23,8 +24,8 @@ const STACK: usize = 8 << 20;
 #[derive(Clone)]
 pub struct Plan {
     pub seconds: f64,
-    /// Exact counts of leaf calls, recoveries and conversions, in place of a time.
-    pub counts: Option<[u64; 3]>,
+    /// Exact counts of leaf calls, recoveries, conversions and walks, in place of a time.
+    pub counts: Option<[u64; PARTS.len()]>,
     pub fixed: bool,
     pub seed: u64,
     pub threads: u64,
@@ -50,7 +51,7 @@ impl Default for Plan {
     }
 }
 
-/// One of the three parts of what is generated: leaf calls, recoveries, conversions.
+/// One of the parts of what is generated: leaf calls, recoveries, conversions, whole walks.
 struct Part {
     /// The cases of one block, all from one generator.
     block: u64,
@@ -60,14 +61,27 @@ struct Part {
     cost: u64,
 }
 
-const PARTS: [Part; 3] = [
-    Part { block: 8000, share: 0.25, cost: 1_300 },
-    Part { block: 1000, share: 0.4, cost: 4_000 },
-    Part { block: 400, share: 0.35, cost: 10_000 },
+const PARTS: [Part; 4] = [
+    Part { block: 8000, share: 0.2, cost: 1_300 },
+    Part { block: 1000, share: 0.3, cost: 4_000 },
+    Part { block: 400, share: 0.3, cost: 10_000 },
+    Part { block: 100, share: 0.2, cost: 8 * STEP_COST },
 ];
 
+/// A walk has about eight calls.
+const STEP_COST: u64 = 5_000;
+
 /// Nanoseconds that the inputs which are the same in every run took there.
-const FIXED_COST: u64 = 2_500_000_000;
+const FIXED_COST: u64 = 3_100_000_000;
+
+/// What a call of an entry that is no leaf is expected to take.
+fn cost(entry: Entry) -> u64 {
+    match entry {
+        Entry::Recover => PARTS[1].cost,
+        Entry::WalkStart | Entry::WalkStep => STEP_COST,
+        _ => PARTS[2].cost,
+    }
+}
 
 /// When the run ends.
 fn end(plan: &Plan) -> End {
@@ -138,6 +152,12 @@ impl Worker<'_> {
                 self.compare(case);
             }
         }
+        if self.is_mine(0) {
+            let mut once_full = fixed::once_full().into_iter();
+            self.walk(&fixed::start_of_the_longest_walk(), |after| {
+                fixed::step_of_the_longest_walk(after, &mut once_full)
+            });
+        }
         for make in fixed::SHORT {
             let mut i = self.thread;
             while let (false, Some(case)) = (self.enough_found(), fixed::short(make, i)) {
@@ -147,7 +167,7 @@ impl Worker<'_> {
         }
     }
 
-    fn counted(&mut self, counts: [u64; 3]) {
+    fn counted(&mut self, counts: [u64; PARTS.len()]) {
         for (part, count) in counts.into_iter().enumerate() {
             let size = PARTS[part].block;
             let mut block = self.thread;
@@ -160,11 +180,11 @@ impl Worker<'_> {
 
     /// Blocks in turn until the time is up, always of the part that is furthest behind its share.
     fn timed(&mut self) {
-        let mut spent = [0.0; 3];
-        let mut blocks = [self.thread; 3];
+        let mut spent = [0.0; PARTS.len()];
+        let mut blocks = [self.thread; PARTS.len()];
         while self.began.elapsed().as_secs_f64() < self.plan.seconds && !self.enough_found() {
             let behind = |part: &usize| spent[*part] / PARTS[*part].share;
-            let part = (0..3).min_by(|p, q| behind(p).total_cmp(&behind(q))).expect("three parts");
+            let part = (0..PARTS.len()).min_by(|p, q| behind(p).total_cmp(&behind(q))).expect("some parts");
             let start = Instant::now();
             self.block(part, blocks[part], PARTS[part].block);
             spent[part] += start.elapsed().as_secs_f64();
@@ -184,8 +204,12 @@ impl Worker<'_> {
                     let leaf = Entry::LEAVES[(i % 8) as usize];
                     self.compare_leaf(leaf, leaves::patterns(leaf, &mut random));
                 }
-                1 => self.compare(&requests::case(&mut random)),
-                _ => self.compare(&profiles::case(&mut random)),
+                1 => _ = self.compare(&requests::case(&mut random)),
+                2 => _ = self.compare(&profiles::case(&mut random)),
+                _ => {
+                    let (mut course, first) = walks::walk(&mut random);
+                    self.walk(&first, |after| course.next(after, &mut random));
+                }
             }
         }
     }
@@ -198,12 +222,29 @@ impl Worker<'_> {
         }
     }
 
-    fn compare(&mut self, case: &Case) {
-        let compared = judge::compared(case, self.plan.slip);
+    fn compare(&mut self, case: &Case) -> Compared {
+        self.compare_apart(case, case)
+    }
+
+    fn compare_apart(&mut self, case: &Case, ruled: &Case) -> Compared {
+        let compared = judge::compared_apart(case, ruled, self.plan.slip);
         self.tally.call(case.entry, &compared);
-        self.progress.add(PARTS[if case.entry == Entry::Recover { 1 } else { 2 }].cost);
+        self.progress.add(cost(case.entry));
         if compared.difference.is_some() {
             self.report(case);
+        }
+        compared
+    }
+
+    /// A whole walk. `next` makes a step of what the call before it must leave behind: from that the rules go on, the library from the eight words that it left.
+    fn walk(&mut self, first: &Case, mut next: impl FnMut(&Answer) -> Option<Case>) {
+        self.tally.walks += 1;
+        let mut compared = self.compare(first);
+        while let (None, false) = (compared.difference, self.enough_found()) {
+            let Some(ruled) = next(&compared.wanted) else { return };
+            self.tally.tried_again += u64::from(compared.wanted.number > 0);
+            let case = Case { lists: vec![ruled.lists[0].clone(), compared.ours.out], ..ruled.clone() };
+            compared = self.compare_apart(&case, &ruled);
         }
     }
 

@@ -55,6 +55,10 @@ impl<F: Fn(&Case) -> bool> Shrinker<F> {
 
     /// Less output, for a grid also with its step doubled or its first half left out.
     fn with_less_room(&self, case: &Case) -> Option<Case> {
+        // a walk has eight words, whatever else is left out
+        if Entry::WALK.contains(&case.entry) {
+            return None;
+        }
         for room in
             [0, case.room / 16 * 8, case.room / 16 * 8 + 8, case.room.saturating_sub(8), case.room.saturating_sub(1)]
         {
@@ -149,7 +153,7 @@ struct Group {
 fn groups(case: &Case) -> Vec<Group> {
     let alone = |i: usize, width| Group { lists: vec![i], width, with_room: false };
     match case.entry {
-        Entry::Recover => vec![alone(0, 24), alone(0, 8), alone(0, 1)],
+        Entry::Recover | Entry::WalkStep => vec![alone(0, 24), alone(0, 8), alone(0, 1)],
         Entry::TToSList => {
             let stations = Group { lists: vec![0, 1, 2], width: 8, with_room: false };
             let samples = Group { lists: vec![3], width: 8, with_room: true };

@@ -17,10 +17,14 @@ pub enum Slip {
     PlainFma,
     PlainHypot,
     OriginalOff,
+    MovedByRefusal,
+    FullAfterRows,
+    CountKept,
+    OldCap,
 }
 
 impl Slip {
-    pub const ALL: [(&'static str, Slip, &'static str); 14] = [
+    pub const ALL: [(&'static str, Slip, &'static str); 18] = [
         ("two-roundings", Slip::TwoRoundings, "the sampler multiplies and adds with two roundings"),
         ("first-residual", Slip::FirstResidual, "the certificate stops at the first residual that fits"),
         ("tolerant-bounds", Slip::TolerantBounds, "the current bounds are compared with tolerance"),
@@ -35,6 +39,10 @@ impl Slip {
         ("plain-fma", Slip::PlainFma, "the leaf fma multiplies and adds with two roundings"),
         ("plain-hypot", Slip::PlainHypot, "hypot is the root of a rounded sum of rounded squares"),
         ("original-off", Slip::OriginalOff, "the first double of each of the original's answers is one step off"),
+        ("moved-by-refusal", Slip::MovedByRefusal, "a refused step moves the walk on"),
+        ("full-after-rows", Slip::FullAfterRows, "a full walk is refused after the length of the rows"),
+        ("count-kept", Slip::CountKept, "an accepted step does not count its station"),
+        ("old-cap", Slip::OldCap, "an accepted step keeps the old station's cap"),
     ];
 
     pub fn named(name: &str) -> Option<Slip> {

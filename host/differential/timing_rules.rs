@@ -57,7 +57,7 @@ fn a_to_b(case: &Case) -> Result<Answer, u64> {
     check_profile(&s, &a)?;
     check_room(s.len() - 1, case)?;
     let b: Vec<f64> = (1..s.len()).map(|i| 0.5 * (a[i] - a[i - 1]) / (s[i] - s[i - 1])).collect();
-    Ok(Answer::wrote(crate::case::LENT, &b, case.room))
+    Ok(Answer::wrote(crate::case::LENT, &b, case))
 }
 
 /// "starting at t0, add 2·(s1 - s0)/(root a0 + root a1) per pair"
@@ -71,7 +71,7 @@ fn s_to_t(case: &Case, slip: Slip) -> Result<Answer, u64> {
     for i in 1..s.len() {
         t.push(t[i - 1] + 2.0 * (s[i] - s[i - 1]) / (a[i - 1].sqrt() + a[i].sqrt()));
     }
-    let mut answer = Answer::wrote(crate::case::LENT, &t, case.room);
+    let mut answer = Answer::wrote(crate::case::LENT, &t, case);
     if !all_finite(&t) {
         refuse(19, slip != Slip::EarlyTimes)?;
         answer.number = 19;
@@ -146,7 +146,7 @@ fn t_to_s_list(case: &Case, slip: Slip) -> Result<Answer, u64> {
     refuse(27, !strictly_increasing(&samples))?;
     check_room(samples.len(), case)?;
     let (entries, counts) = profile.sampled(samples.into_iter(), slip);
-    Ok(Answer::wrote(counts, &entries, case.room))
+    Ok(Answer::wrote(counts, &entries, case))
 }
 
 /// "n = whole part of (last time - t0)/dt, 0 if below 1; plus infinity is refused with 28, as is n over 65,536"
@@ -170,7 +170,7 @@ fn t_to_s_grid(case: &Case, slip: Slip) -> Result<Answer, u64> {
         counts[3] += 1;
         counts[1] += u64::from(slip == Slip::FinalIsATime);
     }
-    Ok(Answer::wrote(counts, &entries, case.room))
+    Ok(Answer::wrote(counts, &entries, case))
 }
 
 /// "if no sample was made, the last station is added when t0 ≤ last time; else it is added when the last entry is less than the last station. A NaN entry isn't
@@ -191,5 +191,5 @@ pub fn conversion(case: &Case, slip: Slip) -> Answer {
         Entry::TToSGrid => t_to_s_grid(case, slip),
         other => unreachable!("{other:?} is no conversion"),
     };
-    answer.unwrap_or_else(|number| Answer::refused(number, case.room))
+    answer.unwrap_or_else(|number| Answer::refused(number, case))
 }

@@ -6,6 +6,7 @@
 //! - A leaf's: then three operands, 0 where the leaf takes fewer, and the answer.
 //! - Any other: then ten numbers, 0 where the entry takes fewer; the places where its four lists and its output end, counted from the case's beginning; the
 //!   number it returns; the four lent numbers after the call. Then the bytes of the lists, empty where the entry takes fewer, and of the output after the call.
+//!   A walk's eight words are an output; before a step they are its second list. The cases of a walk stand in the order of its calls.
 
 use crate::case::{Answer, Case, Entry};
 use crate::judge;
@@ -37,6 +38,11 @@ pub struct Kept {
     /// Short and long cases by entry and kind.
     counts: BTreeMap<(usize, String), [usize; 2]>,
     with_original: usize,
+}
+
+/// How many bytes a case that is no leaf takes.
+pub fn size(case: &Case) -> usize {
+    HEAD + case.lists.iter().map(Vec::len).sum::<usize>() + case.room
 }
 
 fn put(into: &mut Vec<u8>, words: &[u64]) {
@@ -80,7 +86,7 @@ impl Kept {
 
     /// Keeps a case that was drawn if it is new, not too long, and its kind has not had its share.
     pub fn drawn(&mut self, case: &Case) {
-        let size = HEAD + case.lists.iter().map(Vec::len).sum::<usize>() + case.room;
+        let size = size(case);
         if size > LONG {
             return;
         }
@@ -88,7 +94,7 @@ impl Kept {
         self.offered(case, share, usize::from(size > SHORT));
     }
 
-    /// Keeps a case that the limits need.
+    /// Keeps a case that a limit or a walk needs.
     pub fn whatever_its_length(&mut self, case: &Case) {
         self.offered(case, usize::MAX, 1);
     }
@@ -115,13 +121,13 @@ impl Kept {
         true
     }
 
-    fn count(&self, entry: Entry, kind: &str) -> usize {
+    pub fn count(&self, entry: Entry, kind: &str) -> usize {
         self.counts.get(&(entry as usize, kind.to_string())).map_or(0, |counts| counts[0] + counts[1])
     }
 
     /// How many cases there are of each kind. No kind may be without one.
     pub fn print(&self) {
-        for entry in Entry::LEAVES.into_iter().chain([Entry::Recover]).chain(Entry::CONVERSIONS) {
+        for entry in Entry::LEAVES.into_iter().chain([Entry::Recover]).chain(Entry::CONVERSIONS).chain(Entry::WALK) {
             let told = |kind: &str| {
                 let count = self.count(entry, kind);
                 assert!(count > 0, "{entry:?} has no case of the kind {kind}");

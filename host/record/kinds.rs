@@ -2,8 +2,9 @@
 
 use crate::case::{Answer, Case, Entry};
 use crate::recovery_rules::Way;
+use crate::walk_rules::Walk;
 
-/// The refusal numbers of each entry, in document 01's order.
+/// The refusal numbers of each entry, in the order of document 01, and for a step of 02.
 pub fn numbers(entry: Entry) -> &'static [u64] {
     match entry {
         Entry::Recover => &[10, 1, 2, 3, 4, 5, 6, 7, 8, 9],
@@ -11,6 +12,7 @@ pub fn numbers(entry: Entry) -> &'static [u64] {
         Entry::SToT => &[10, 11, 12, 13, 14, 15, 16, 17, 18, 29, 19],
         Entry::TToSList => &[10, 11, 12, 13, 14, 15, 17, 18, 20, 21, 22, 25, 28, 26, 27, 29],
         Entry::TToSGrid => &[10, 11, 12, 13, 14, 15, 17, 18, 20, 21, 22, 16, 23, 24, 28, 29],
+        Entry::WalkStep => &[10, 61, 1, 2, 3, 4, 5, 6, 7, 8, 9],
         _ => &[],
     }
 }
@@ -18,7 +20,7 @@ pub fn numbers(entry: Entry) -> &'static [u64] {
 /// The ways of answering of each entry.
 pub fn ways(entry: Entry) -> &'static [&'static str] {
     match entry {
-        Entry::Recover => {
+        Entry::Recover | Entry::WalkStep => {
             &["cap", "neighbour 0", "neighbour 1", "neighbour 2", "neighbour 3", "neighbour 4", "middle", "halvings"]
         }
         Entry::AToB => &["all finite", "not all finite"],
@@ -40,6 +42,7 @@ pub fn ways(entry: Entry) -> &'static [&'static str] {
             "final alone",
             "no samples, final not due",
         ],
+        Entry::WalkStart => &["patterns as given", "a NaN made plain"],
         _ => &["special", "common"],
     }
 }
@@ -51,7 +54,7 @@ pub fn kind(case: &Case, answer: &Answer, way: Option<Way>) -> String {
     }
     let [before, inside, past, written] = answer.lent;
     match case.entry {
-        Entry::Recover => match way.expect("an answer is found in some way") {
+        Entry::Recover | Entry::WalkStep => match way.expect("an answer is found in some way") {
             Way::Cap => "cap".to_string(),
             Way::Neighbour(steps) => format!("neighbour {steps}"),
             Way::Middle => "middle".to_string(),
@@ -63,6 +66,10 @@ pub fn kind(case: &Case, answer: &Answer, way: Option<Way>) -> String {
             if finite { "all finite" } else { "not all finite" }.to_string()
         }
         Entry::SToT => "times".to_string(),
+        Entry::WalkStart => {
+            let as_given = Walk::read(&answer.out).0[..7] == case.numbers;
+            if as_given { "patterns as given" } else { "a NaN made plain" }.to_string()
+        }
         Entry::TToSList => times(before, inside, past).to_string(),
         _ => grid(case.with_final(), before + inside + past, written).to_string(),
     }

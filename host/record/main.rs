@@ -1,8 +1,9 @@
 //! Records inputs with what each call must leave behind, for the crate `replay`.
 //!
 //! `host/run record FILE [seed=N]` draws inputs from the differential run's generators until each refusal number and each way of answering has its share, and
-//! writes them to FILE. An answer follows from document 01's rules, and in the domain the original has confirmed it: but for the sign of a zero and for a NaN,
-//! which 01 fixes, each double is the original's. The library is not asked. It prints how many cases of each kind there are, and fails if a kind has none.
+//! writes them to FILE; last come whole walks, call by call. An answer follows from the rules of documents 01 and 02, and in the domain the original has
+//! confirmed it: but for the sign of a zero and for a NaN, which 01 fixes, each double is the original's. The library is not asked. It prints how many cases of
+//! each kind there are, and fails if a kind has none.
 
 #![allow(unstable_name_collisions)] // next_down is stable from Rust 1.86 on
 #![allow(dead_code)] // the modules of the differential run hold more than is used here
@@ -36,6 +37,11 @@ mod requests;
 mod slips;
 #[path = "../differential/timing_rules.rs"]
 mod timing_rules;
+#[path = "../differential/walk_rules.rs"]
+mod walk_rules;
+#[path = "../differential/walks.rs"]
+mod walks;
+mod whole_walks;
 
 use case::{bytes, Case, Entry};
 use kept::Kept;
@@ -79,8 +85,7 @@ fn keep_leaves(kept: &mut Kept, seed: u64) {
 /// What the generators make too long or too seldom: 256 rows and 257, an unfit row on either side of an unmet one, 4,097 stations, 65,537 samples. Beside a list
 /// that is refused for its length the others may be empty.
 fn keep_limits(kept: &mut Kept) {
-    // document 01's own request
-    let numbers = [1.0, 0.0, 4.0, 9.0, 0.0, 4.0, 3.0, 0.0, 0.0, 0.0];
+    let numbers = fixed::REQUEST;
     for rows in [256, 257] {
         for row in [[0.0, 0.0, 0.0], [1.0, 0.0, 2.0]] {
             kept.whatever_its_length(&requests::Draft { numbers, rows: vec![row; rows] }.case());
@@ -114,6 +119,7 @@ fn main() {
     for _ in 0..DRAWS {
         kept.drawn(&profiles::case(&mut random));
     }
+    whole_walks::keep(&mut kept, &mut Random::new(seed, 3, 0));
     println!("seed {seed}");
     kept.print();
     if let Err(error) = std::fs::write(&file, kept.file()) {
