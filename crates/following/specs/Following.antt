@@ -1,4 +1,4 @@
--- The walk of t to s, from one time to the next.
+-- The pass of t to s, from one time to the next.
 use Prim.Native.Nat.{ℕ, _+_, _*_, _-_, _/_, _≤_, _<_, _^_}
 use mathlib.Core.Path.{_≡_}
 use mathlib.Core.Bool.{Bool, true, not, cond, _&&_}
@@ -36,14 +36,14 @@ pub record Passed (s a t : List Float) (source : Source) (x : List Float) (n : �
   pub left : new ≡ filled (byteOf (stationOf s a t source x)) (8 * n) old
 
 -- ---- cited by inner functions alone
--- every interval before that of the walk ends below its time; its end and its piece are those of the interval
+-- every interval before that of the cursor ends below its time; its end and its piece are those of the interval
 pub record Standing (s a t : List Float) (w : Cursor) : Type 0 where
   pub within : w .interval ≤ length t - 1
   pub behind : (k : ℕ) → k < w .interval → lt (at t (k + 1)) (w .time) ≡ true
   pub ends : w .end ≡ at t (w .interval + 1)
   pub held : w .piece ≡ pieceAt s a t (w .interval)
 
--- x is not below the walk's time, nor past the end of its interval
+-- x is not below the cursor's time, nor past the end of its interval
 abbrev pub stays : Cursor → Float → Bool
 stays w x = le (w .time) x && not (lt (w .end) x)
 
@@ -51,7 +51,7 @@ stays w x = le (w .time) x && not (lt (w .end) x)
 abbrev pub AllInside : List Float → (ℕ → Float) → ℕ → ℕ → Type 0
 AllInside t x start r = (k : ℕ) → start ≤ k → k < r → isInside t (x k) ≡ true
 
--- the walk stands at a time that is inside, with the first `start` entries written, v the last of them, and room for n
+-- the cursor stands at a time that is inside, with the first `start` entries written, v the last of them, and room for n
 pub record Ready (s a t : List Float) (w : Cursor) (source : Source) (x : List Float) (start n : ℕ) (v : Float) (out : List ℕ) : Type 0 where
   pub stands : Standing s a t w
   pub found : w .interval ≡ intervalOf t (w .time)

@@ -13,7 +13,7 @@ ghost use Rattle.byte_lists.specs.Bytes.{doublesOf};
 ghost use Rattle.following.specs.Places.{intervalOf};
 ghost use Rattle.following.specs.Following.{Standing};
 
-// Where a walk over the times stands: the last time, its interval, the time at that interval's end and its piece. Past the last time both are NaN's.
+// Where a pass over the times stands: the last time, its interval, the time at that interval's end and its piece. Past the last time both are NaN's.
 pub(crate) struct Cursor {
     pub time: f64,
     pub interval: usize,

@@ -120,7 +120,7 @@ fn more_inside(c: Counts, m: usize) -> Counts
     }
 }
 
-// The station at x, where the walk stands at x.
+// The station at x, where the cursor stands at x.
 fn station(s: &[u8], a: &[u8], t: &[u8], w: Cursor, x: f64, inside: bool) -> f64
     requires { ⌜ (w .interval ≡ intervalOf (doublesOf (now t)) x) × Standing (doublesOf (now s)) (doublesOf (now a)) (doublesOf (now t)) w
         × (inside ≡ isInside (doublesOf (now t)) x) ⌝ }
@@ -133,7 +133,7 @@ fn station(s: &[u8], a: &[u8], t: &[u8], w: Cursor, x: f64, inside: bool) -> f64
     }
 }
 
-// A time that stays has the walk's interval, and need not be looked for.
+// A time that stays has the cursor's interval, and need not be looked for.
 fn stays(w: Cursor, x: f64) -> bool
     ensures { λ r. ⌜ r ≡ stays w x ⌝ }
 {
@@ -153,7 +153,7 @@ fn in_both(n: usize, list: usize, room: usize) -> bool
     if n <= list { n <= room } else { false }
 }
 
-// The entries from `start` on, as long as their times stay, where the walk's time is inside; v is the entry before them. Here the times of a list: a
+// The entries from `start` on, as long as their times stay, where the cursor's time is inside; v is the entry before them. Here the times of a list: a
 // length that is told beside the loop is not tested in it.
 fn follow_list(
     s: &[u8],
@@ -251,8 +251,8 @@ fn follow(
     }
 }
 
-// The first n times of the source, walked in order.
-fn walked(
+// Goes through the first n times of the source, in order.
+fn go_through(
     s: &[u8],
     a: &[u8],
     t: &[u8],
@@ -318,9 +318,9 @@ pub fn t_to_s_topp2_core(
         (min n (length (now (out .entry)) / 8)) (now (out .entry)) r (now (out .exit)) ⌝ }
 {
     let m = least(n, out.len() / 8);
-    // What is called from one place is built into its caller, and the walk then runs short of registers: hence two calls.
+    // What is called from one place is built into its caller, and the loop then runs short of registers: hence two calls.
     if m < most::SAMPLES {
-        return walked(s, a, t, source, x, m, out);
+        return go_through(s, a, t, source, x, m, out);
     }
-    walked(s, a, t, source, x, m, out)
+    go_through(s, a, t, source, x, m, out)
 }

@@ -2,9 +2,9 @@
 // entry how many cases there were and how many differ, and last the same of all.
 //
 // `host/run record` makes the file: the eight letters "malikoza", the number of cases, and the cases. A number is eight bytes, low byte first.
+mod cases;
 mod comparing;
 mod telling;
-mod walking;
 
 ghost use mathlib.Core.Path.{_≡_};
 ghost use lib.ListN.{length};
@@ -19,7 +19,7 @@ fn room() -> [u8; 1_572_864]
 fn read(fd: i32) {
     let mut file = room();
     let n = io::read_full(fd, &mut file);
-    walking::replay(&file[..n]);
+    cases::replay(&file[..n]);
 }
 
 fn main() {

@@ -3,7 +3,7 @@ use native.Mathlib.Omega.{arith}
 use Rattle.loops.specs.Upto.{at}
 use Rattle.byte_lists.specs.Bytes.{doublesOf}
 use Rattle.byte_lists.proofs.Fronts.{length-doubles}
-use Rattle.following.proofs.Walks.{interval-le, ends-below}
+use Rattle.following.proofs.Cursors.{interval-le, ends-below}
 use borrow.Author.Needs.{needs}
 use Rattle.following.proofs.interval.advance.Statement.{statement}
 use Rattle.following.proofs.interval.advance.Tie as tie

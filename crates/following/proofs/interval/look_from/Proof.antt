@@ -1,7 +1,7 @@
 -- `following::interval::look_from` meets its contract. Assumes nothing.
 use native.Mathlib.Omega.{arith}
 use borrow.Author.Needs.{needs}
-use Rattle.following.proofs.Walks.{still-below}
+use Rattle.following.proofs.Cursors.{still-below}
 use Rattle.following.proofs.interval.look_from.Statement.{statement}
 use Rattle.following.proofs.interval.look_from.Tie as tie
 

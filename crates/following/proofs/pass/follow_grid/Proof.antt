@@ -8,7 +8,7 @@ use Rattle.byte_lists.specs.Bytes.{doublesOf, byteOf}
 use Rattle.byte_lists.proofs.Encoding.{fill-put}
 use Rattle.following.specs.Following.{timeOf, stationOf, AllInside}
 use Rattle.following.specs.declared.pass.Source.the-variants.{Even}
-use Rattle.following.proofs.Walks.{stays-entry, inside-more}
+use Rattle.following.proofs.Cursors.{stays-entry, inside-more}
 use borrow.Author.Needs.{needs}
 use Rattle.following.proofs.pass.follow_grid.Statement.{statement}
 use Rattle.following.proofs.pass.follow_grid.Tie as tie

@@ -3,7 +3,7 @@ use native.Mathlib.Omega.{arith}
 use Rattle.byte_lists.specs.Bytes.{doublesOf}
 use Rattle.byte_lists.proofs.Fronts.{length-doubles}
 use Rattle.following.specs.Places.{isInside}
-use Rattle.following.proofs.Walks.{interval-le, next-within}
+use Rattle.following.proofs.Cursors.{interval-le, next-within}
 use borrow.Author.Needs.{needs}
 use Rattle.following.proofs.pass.is_inside.Statement.{statement}
 use Rattle.following.proofs.pass.is_inside.Tie as tie

@@ -2,7 +2,7 @@ use mathlib.Core.Path.{sym, _∙_}
 use borrow.Author.Needs.{needs}
 use lib.Ieee.{ofBits, div}
 use Rattle.following.specs.Places.{stationAt}
-use Rattle.following.proofs.Walks.{station-held}
+use Rattle.following.proofs.Cursors.{station-held}
 use Rattle.following.proofs.pass.station.Statement.{statement}
 use Rattle.following.proofs.pass.station.Tie as tie
 

@@ -9,10 +9,10 @@ use Rattle.byte_lists.specs.Bytes.{doublesOf, byteOf}
 use Rattle.byte_lists.proofs.Encoding.{fill-put}
 use Rattle.following.specs.Places.{countsOf}
 use Rattle.following.specs.Following.{timeOf, stationOf, lastEntry, Standing}
-use Rattle.following.proofs.Walks.{inside-first, counts-none, counts-turn, counts-up-to, counts-written, counts-bounded, last-entry}
+use Rattle.following.proofs.Cursors.{inside-first, counts-none, counts-turn, counts-up-to, counts-written, counts-bounded, last-entry}
 use borrow.Author.Needs.{needs}
-use Rattle.following.proofs.pass.walked.Statement.{statement}
-use Rattle.following.proofs.pass.walked.Tie as tie
+use Rattle.following.proofs.pass.go_through.Statement.{statement}
+use Rattle.following.proofs.pass.go_through.Tie as tie
 
 abbrev Inv-loop : tie.InvT-loop
 Inv-loop s a t source x n out₀ counts₀ w₀ last₀ j₀ out counts w last j =
@@ -147,8 +147,8 @@ returns c =
     let e : l .j ≡ c .before .before .before .before .before .before .before .before .before .args .n = omega arith in
     record { counts = rw e at (l .inv .4); last = rw e at (l .inv .5); left = rw e at (l .inv .7) }
 
-pub walked-spec : {M : Type 1} → statement M
-walked-spec =
+pub go-through-spec : {M : Type 1} → statement M
+go-through-spec =
     tie.close
     (tie.spec
     Inv-loop

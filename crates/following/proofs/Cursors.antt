@@ -1,4 +1,4 @@
--- Laws of the walk of t to s: the interval that is carried from a time to the next, and the counts of one time more.
+-- Laws of the pass of t to s: the interval that is carried from a time to the next, and the counts of one time more.
 use Prim.Native.Nat.{ℕ, _+_, _-_, _<_, _≤_, _^_}
 use mathlib.Core.Path.{_≡_, refl, sym, ap, _∙_}
 use mathlib.Core.Bool.{Bool, true, false, not, _&&_}
@@ -48,7 +48,7 @@ next-within k n = go (ltb (k + 1) n) refl
 pub still-below : (x y z : Float) → lt x y ≡ true → le y z ≡ true → lt x z ≡ true
 still-below x y z p q = is-true _ (lt-le-transitive x y z (holds p) (holds q))
 
--- the station that the walk's piece gives
+-- the station that the cursor's piece gives
 pub station-held : (s a t : List Float) (w : Cursor) (x : Float) → w .interval ≡ intervalOf t x → Standing s a t w → isInside t x ≡ true
     → stationInside (w .piece) x ≡ stationAt s a t x
 unfolding stationAt stationIn
@@ -69,7 +69,7 @@ not-below-too y x z h e = go (lt x z) (λ l. fails e (le-lt-transitive y x z (ho
     go true n = absurd (n tt)
     go false n = refl
 
--- a time that stays has the walk's interval, and is inside with the walk's own time
+-- a time that stays has the cursor's interval, and is inside with the cursor's own time
 module _
     (s a t : List Float)
     (w : Cursor)

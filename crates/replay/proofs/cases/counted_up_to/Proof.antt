@@ -2,8 +2,8 @@ use Prim.Native.Nat.{_≤_, _-_}
 use native.Mathlib.Omega.{arith}
 use lib.ListN.{length}
 use borrow.Author.Needs.{needs}
-use Rattle.replay.proofs.walking.walked.Statement.{statement}
-use Rattle.replay.proofs.walking.walked.Tie as tie
+use Rattle.replay.proofs.cases.counted_up_to.Statement.{statement}
+use Rattle.replay.proofs.cases.counted_up_to.Tie as tie
 
 abbrev Inv-loop : tie.InvT-loop
 Inv-loop file tally₀ at₀ tally at = 16 ≤ at
@@ -41,8 +41,8 @@ loop-again c = omega arith
 returns-2 : tie.Need-returns-2 Inv-loop μ-loop
 returns-2 c = omega arith
 
-pub walked-spec : {M : Type 1} → statement M
-walked-spec =
+pub counted-up-to-spec : {M : Type 1} → statement M
+counted-up-to-spec =
     tie.close
     (tie.spec
     Inv-loop

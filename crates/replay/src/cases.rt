@@ -61,7 +61,7 @@ fn taken(rest: &[u8], tally: &mut [u64; 30]) -> usize
 }
 
 // Where the cases end, or where one does not keep its form.
-fn walked(file: &[u8], tally: &mut [u64; 30]) -> usize {
+fn counted_up_to(file: &[u8], tally: &mut [u64; 30]) -> usize {
     let mut at = 16;
     while at < file.len() {
         let n = taken(&file[at..], tally);
@@ -80,7 +80,7 @@ pub(crate) fn replay(file: &[u8]) {
         telling::malformed(0);
         return;
     }
-    let at = walked(file, &mut tally);
+    let at = counted_up_to(file, &mut tally);
     if at != file.len() {
         telling::malformed(at);
         return;
