@@ -14,6 +14,12 @@ fn text(path: &str) -> String {
     fs::read_to_string(top().join(path)).unwrap_or_else(|error| panic!("{path}: {error}"))
 }
 
+/// The paths of what a folder holds; none where there is no such folder.
+fn files(folder: &str) -> Vec<String> {
+    let Ok(files) = fs::read_dir(top().join(folder)) else { return Vec::new() };
+    files.map(|file| format!("{folder}/{}", file.expect("a file").file_name().to_string_lossy())).collect()
+}
+
 /// `ProjectionEmpty` as `PROJECTION_EMPTY`.
 fn in_capitals(name: &str) -> String {
     let spaced = name.chars().map(|c| if c.is_uppercase() { format!("_{c}") } else { c.to_uppercase().to_string() });
@@ -56,6 +62,26 @@ fn header_crate_and_changelog_have_the_same_version() {
     let version = between(&header, "#define MALIKOZA_VERSION \"", "\"");
     assert_eq!(between(&crate_, "version = \"", "\""), version);
     assert_eq!(between(&changes, "\n## ", "\n"), version);
+}
+
+/// `rt ci` tells of each crate, and of each edit that must fail, that it passed.
+#[test]
+fn readme_counts_crates_and_edits() {
+    let readme = text("README.md").split_whitespace().collect::<Vec<_>>().join(" ");
+    let listed = text("crates.txt");
+    let lines = listed.lines().filter(|line| !line.starts_with('#'));
+    let crates: Vec<&str> = lines.filter_map(|line| line.split_once(':')).map(|(name, _)| name).collect();
+    let edits: usize = crates.iter().map(|name| files(&format!("crates/{name}/must-fail")).len()).sum();
+    let (crates, passed) = (crates.len(), crates.len() + edits);
+    let told = [
+        format!("proves the {crates} crates;"),
+        format!("`rt: ok, {crates} crates proved`"),
+        format!("tries {edits} edits"),
+        format!("`{passed} passed, 0 failed`"),
+    ];
+    for words in told {
+        assert!(readme.contains(&words), "README.md lacks: {words}");
+    }
 }
 
 /// The cases of a program, each a line that begins with a small letter.
@@ -128,19 +154,16 @@ fn links(document: &str) -> Vec<&str> {
     files.filter(|file| !file.is_empty()).collect()
 }
 
+/// The documents: those at the top, and all below docs/.
+fn documents() -> Vec<String> {
+    let mut all = [vec!["README.md".into(), "CHANGELOG.md".into()], files("docs"), files("docs/landings")].concat();
+    all.retain(|path: &String| path.ends_with(".md"));
+    all
+}
+
 #[test]
 fn links_lead_to_files() {
-    let documents = [
-        "README",
-        "CHANGELOG",
-        "docs/RULES",
-        "docs/STATEMENTS",
-        "docs/DECISIONS",
-        "docs/DIFFERENCES",
-        "docs/FIGURES",
-        "docs/landings/01-walk",
-    ];
-    for document in documents.map(|name| format!("{name}.md")) {
+    for document in documents() {
         let folder = top().join(Path::new(&document).parent().expect("a folder"));
         for target in links(&text(&document)) {
             assert!(folder.join(target).exists(), "{document}: no {target}");
