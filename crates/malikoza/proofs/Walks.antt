@@ -19,8 +19,8 @@ use Rattle.requests.specs.FromPatterns.{stationOf, tolerancesOf}
 use Rattle.replies.specs.AnswerTold.{recoveredBytes, numberOf, Told}
 use Rattle.walk.specs.Walking.{started, nextRequest, stepAnswer, stepped}
 use Rattle.walk.specs.declared.state.Walk.{Walk}
-use Rattle.walk.proofs.Steps.{demanded}
-use Rattle.walk.proofs.Along.{along}
+use Rattle.stages.proofs.Steps.{demanded}
+use Rattle.stages.proofs.Along.{along}
 use Rattle.walk_words.specs.Words.{walkOf, wordsOf, steppedBytes, wordsLeft}
 use Rattle.walk_words.proofs.ReadBack.{words-doubles, start-reads, step-reads}
 use Rattle.malikoza.specs.Steps.{Starting, Stepping}

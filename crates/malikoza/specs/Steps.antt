@@ -9,8 +9,8 @@ use Rattle.passing.specs.Demand.{Sound}
 use Rattle.byte_lists.specs.Bytes.{doublesOf}
 use Rattle.replies.specs.AnswerTold.{Told}
 use Rattle.walk.specs.Walking.{started, nextRequest}
-use Rattle.walk.specs.StepDemand.{StepDemanded}
-use Rattle.walk.specs.Committed.{StageByStage}
+use Rattle.stages.specs.StepDemand.{StepDemanded}
+use Rattle.stages.specs.Committed.{StageByStage}
 use Rattle.walk_words.specs.Words.{walkOf, wordsOf, steppedBytes, wordsLeft}
 
 -- the words of the start, which read as it; and what a walk from there commits

@@ -1,4 +1,2 @@
 -- Document 02, request 1: "Walk a whole strap."
 pub mod Walking
-pub mod StepDemand
-pub mod Committed

@@ -16,7 +16,7 @@ use Rattle.byte_lists.specs.Bytes.{inEights, doublesOf}
 use Rattle.requests.specs.FromPatterns.{stationOf, tolerancesOf}
 use Rattle.walk.specs.Walking.{started, nextRequest, advanced, stepAnswer, stepped}
 use Rattle.walk.specs.declared.state.Walk.{Walk}
-use Rattle.walk.proofs.Steps.{accepted}
+use Rattle.walk.proofs.Accepted.{accepted}
 use Rattle.walk_words.specs.Words.{walkOf, wordsOf, steppedBytes, wordsAfter, wordsLeft}
 
 -- numbers that come from patterns are doubles

@@ -12,9 +12,9 @@ use Rattle.refusals.specs.Most.{mostStations}
 use Rattle.search.specs.declared.answer.Answer.{Answer}
 use Rattle.search.specs.declared.answer.Answer.the-variants.{Certified, Refused}
 use Rattle.topp2_ra.specs.Recovery.{recovered}
 use Rattle.walk.specs.declared.state.Walk.{Walk}
 use Rattle.walk.specs.Walking.{nextRequest, advanced, stepAnswer, stepped}
-use Rattle.walk.specs.Committed.{Stage, speedThen, committed, onward, stageByStage, room, StageByStage}
+use Rattle.stages.specs.Committed.{Stage, speedThen, committed, onward, stageByStage, room, StageByStage}
 
 take-none : (n : ℕ) (l : List Float) → n ≡ 0 → take n l ≡ []
 take-none n l e = ap (λ (n : ℕ). take n l) e

@@ -1,0 +1,2 @@
+pub mod StepDemand
+pub mod Committed
