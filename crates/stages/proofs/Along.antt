@@ -14,7 +14,7 @@ use Rattle.search.specs.declared.answer.Answer.the-variants.{Certified, Refused
 use Rattle.topp2_ra.specs.Recovery.{recovered}
 use Rattle.walk.specs.declared.state.Walk.{Walk}
 use Rattle.walk.specs.Walking.{nextRequest, advanced, stepAnswer, stepped}
-use Rattle.stages.specs.Committed.{Stage, speedThen, committed, onward, stageByStage, room, StageByStage}
+use Rattle.stages.specs.Committed.{Stage, speedThen, committed, afterwards, stageByStage, room, StageByStage}
 
 take-none : (n : ℕ) (l : List Float) → n ≡ 0 → take n l ≡ []
 take-none n l e = ap (λ (n : ℕ). take n l) e
@@ -35,7 +35,7 @@ Holds w l = committed w l ≡ take (room w) (onFrom w l)
 -- one stage, its answer given
 stage : (w : Walk) (g : Stage) (l : List Stage) → ((v : Walk) → Holds v l) → (a : Answer) (b : Bool) → ltb (w .count) mostStations ≡ b
     → let c = cond b a (Refused 61) in
-    speedThen c (committed (advanced w (g .station) c) l) ≡ take (room w) (onward a (λ x. stageByStage (w .tolerances) x (g .station) l) (onFrom w l))
+    speedThen c (committed (advanced w (g .station) c) l) ≡ take (room w) (afterwards a (λ x. stageByStage (w .tolerances) x (g .station) l) (onFrom w l))
 stage w g l holds (Certified x n r t) true e =
     let later = stageByStage (w .tolerances) x (g .station) l in
     let one-more : room w ≡ suc (mostStations - (w .count + 1)) = omega (arith, ltb-true (w .count) mostStations e) in

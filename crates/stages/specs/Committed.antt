@@ -29,15 +29,15 @@ committed w [] = []
 committed w (g ∷ l) = let r = stepped w (g .station) (g .rows) in speedThen (r .answer) (committed (r .walk) l)
 
 -- what follows an answer: after a speed what follows from there, after a refusal what follows from where one was
-abbrev pub onward : Answer → (Float → List Float) → List Float → List Float
-onward (Certified x n r t) from same = x ∷ from x
-onward (Refused k) from same = same
+abbrev pub afterwards : Answer → (Float → List Float) → List Float → List Float
+afterwards (Certified x n r t) from same = x ∷ from x
+afterwards (Refused k) from same = same
 
 -- recovery called stage by stage, each time with the speed that was committed last and the station that has it
 unfoldable pub stageByStage : Tolerances → Float → Station → List Stage → List Float
 stageByStage t a s [] = []
 stageByStage t a s (g ∷ l) =
-    onward (recovered (record { «a_prev» = a; prev = s; curr = g .station; tolerances = t }) (g .rows))
+    afterwards (recovered (record { «a_prev» = a; prev = s; curr = g .station; tolerances = t }) (g .rows))
     (λ x. stageByStage t x (g .station) l) (stageByStage t a s l)
 
 -- how many stations a walk still has room for
