@@ -1,8 +1,8 @@
 -- Heron's rounds for a root, and a root lengthened by one division: the code of floor_root.
-use mathlib.Core.Path.{_≡_, sym, ap, ap₂, _∙_, subst}
+use mathlib.Core.Path.{_≡_, sym, ap, _∙_, subst}
 use Prim.Native.Nat.{ℕ, zero, suc, _+_, _-_, _*_, _/_, _%_, _^_, _≤_, _<_, min}
 use native.Mathlib.Nat.{le-trans, le-of-eq, lt-of-le-of-lt, lt-suc-self, lt-of-mul-lt-mul-right, mul-le-mul, mul-le-mul-right}
-use native.Mathlib.Nat.{div-lt-iff-lt-mul, div-add-mod', div-mul-le-self, mod-lt}
+use native.Mathlib.Nat.{div-lt-iff-lt-mul, div-add-mod', mod-lt}
 use native.Mathlib.Omega.{arith}
 use mathlib.Core.Bool.{Bool, true, false, not}
 use lib.Dec.{T, leb, leb→le, nleb→lt}
@@ -41,18 +41,13 @@ root-pos n (suc r) h = omega arith
 pub round-below : (n r : ℕ) → n < r * r → (r + n / r) / 2 < r
 round-below n r h = let a : n / r < r = div-lt-iff-lt-mul (root-pos n r h) .1 h in omega arith
 
--- ---- the first round fits: the sum is largest where the guess is smallest
-pub first-fits : (n g : ℕ) → n < 2 ^ 63 → 0x6000_0000 ≤ g → g ≤ 0xc000_0000 → g + n / g < 2 ^ 33
-first-fits n g N G H = go (n / g) (div-mul-le-self n g) (leb (2 ^ 33) (g + n / g)) (leb→le (2 ^ 33) (g + n / g)) (nleb→lt (2 ^ 33) (g + n / g))
-  where
-    go : (q : ℕ) → q * g ≤ n → (t : Bool) → (T t → 2 ^ 33 ≤ g + q) → (T (not t) → g + q < 2 ^ 33) → g + q < 2 ^ 33
-    go q e true x y =
-        let d = g - 0x6000_0000 in
-        let a : g ≡ 0x6000_0000 + d = omega arith in
-        let b : d * d ≤ 0x6000_0000 * d = mul-le-mul-right d (omega arith) in
-        let c : 2 ^ 33 * g ≤ (g + q) * g = mul-le-mul-right g (x tt) in
-        absurd (omega (arith, ap₂ (λ (i j : ℕ). i * j) a a))
-    go q e false x y = y tt
+-- ---- the first round fits
+pub first-fits : (n g : ℕ) → n < g * 2 ^ 32 → g < 2 ^ 32 → g + n / g < 2 ^ 33
+first-fits n g N G =
+    let p : 0 < g = omega arith in
+    let q : n < 2 ^ 32 * g = omega arith in
+    let l : n / g < 2 ^ 32 = div-lt-iff-lt-mul p .1 q in
+    omega arith
 
 -- ---- 24 digits more, of (s * s + t) * 2 ^ 48 + l
 module _ (s t l : ℕ) (S : 2 ^ 30 ≤ s) (R : t ≤ 2 * s) (L : l < 2 ^ 48) where

@@ -8,9 +8,10 @@ ghost use Rattle.rounding.specs.Packing.{significand, exponent};
 ghost use Rattle.exact_roots.specs.CutRoot.{stickMore};
 ghost use Rattle.roots.specs.Hypot.{hypotOf, Spanned};
 use crate::floor_root;
-use crate::near_root;
 use limbs::wide;
 use limbs::wide::Wide;
+use near_roots::guess::Guess;
+use near_roots::length;
 use patterns::pattern;
 use rounding::packing;
 use rounding::packing::Parts;
@@ -111,39 +112,13 @@ fn ordered(a: u64, b: u64) -> f64
     0.0 / 0.0
 }
 
-// From two normal patterns that are not far apart, the larger first. A guess that is the root is the answer; else the root is worked out. Its exponent is
-// the larger's, or one more, and then below an infinity's.
-fn near_length(a: u64, b: u64) -> f64
-    requires { ⌜ (27 ≤ a / 2 ^ 52) × (b ≤ a) × (a / 2 ^ 52 < 2046) × (a / 2 ^ 52 - b / 2 ^ 52 < 27) ⌝ }
-    ensures { λ r. ⌜ r ≡ hypotOf binary64 (ofBits binary64 a) (ofBits binary64 b) ⌝ }
-{
-    let p = packing::fields(a);
-    let q = packing::fields(b);
-    let h = near_root::upper_sum(p.m, q.m, p.k - q.k);
-    let g = near_root::in_floats(h);
-    if g != g {
-        return finite_length(a, b);
-    }
-    let u = f64::to_bits(g) % 0x10_0000_0000_0000 * 2048 + 0x8000_0000_0000_0000;
-    let low = 1 - (h >> 62);
-    if near_root::is_nearest(h, u, low) {
-        return f64::from_bits((p.k - 52 - low) * 0x10_0000_0000_0000 + (u >> 11));
-    }
-    finite_length(a, b)
-}
-
-// From two patterns without a sign, the larger first. Where both are normal and not far apart, a guess is tried.
+// From two patterns without a sign, the larger first. A guess that is right is the answer; else the length is worked out.
 fn tried_length(a: u64, b: u64) -> f64
     requires { ⌜ (b ≤ a) × (a < 0x8000_0000_0000_0000) ⌝ }
     ensures { λ r. ⌜ r ≡ hypotOf binary64 (ofBits binary64 a) (ofBits binary64 b) ⌝ }
 {
-    let k = a >> 52;
-    if k >= 27 {
-        if k < 2046 {
-            if k - (b >> 52) < 27 {
-                return near_length(a, b);
-            }
-        }
+    if let Guess::Right(r) = length::guessed(a, b) {
+        return r;
     }
     ordered(a, b)
 }

@@ -1,5 +1,4 @@
-// The square root and hypot, each the nearest double. Both stand on one floor root of a number of two limbs; hypot first tries a guess in floats.
+// The square root and hypot, each the nearest double: a guess that is right, or worked out from one floor root of a number of two limbs.
 mod floor_root;
 pub mod hypot;
-mod near_root;
 pub mod square_root;

@@ -22,13 +22,13 @@ div-s c = omega (arith, c .guess .ensures)
 
 add-s : tie.Need-add-s Inv-loop μ-loop
 add-s c =
-    record { fits = omega (arith, first-fits (c .before .args .n) (c .guess .result) (c .before .pre) (c .guess .ensures .0) (c .guess .ensures .1)) }
+    record { fits = omega (arith, first-fits (c .before .args .n) (c .guess .result) (c .guess .ensures .0) (c .guess .ensures .1)) }
 
 loop-holds : tie.Need-loop-holds Inv-loop μ-loop
 loop-holds c =
     let n = c .before .args .n in
     let g = c .guess .result in
-    (round-above n g (omega (arith, c .guess .ensures)), omega (arith, first-fits n g (c .before .pre) (c .guess .ensures .0) (c .guess .ensures .1)))
+    (round-above n g (omega (arith, c .guess .ensures)), omega (arith, first-fits n g (c .guess .ensures .0) (c .guess .ensures .1)))
 
 mul-loop : tie.Need-mul-loop Inv-loop μ-loop
 mul-loop c = record { fits = square-rises (c .loop .s) (2 ^ 32) (c .loop .inv .1) }

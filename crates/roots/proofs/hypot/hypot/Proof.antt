@@ -6,7 +6,7 @@ use lib.Ieee.{binary64, toBits}
 use Rattle.number.proofs.Order.{holds}
 use Rattle.exact_roots.proofs.NearestRoot.{spanned}
 use Rattle.exact_roots.proofs.HypotCases.{code-unsigned, sorted-in, code-sorted}
-use Rattle.roots.proofs.WholeFloats.{same-number}
+use Rattle.near_roots.proofs.WholeFloats.{same-number}
 use Rattle.roots.proofs.hypot.hypot.Statement.{statement}
 use Rattle.roots.proofs.hypot.hypot.Tie as tie
 

@@ -10,12 +10,12 @@ use lib.Ieee.Exact.{HasValue}
 use Rattle.number.proofs.Patterns.{sizeAt, pattern-value, units-of-value}
 use Rattle.rounding.specs.Packing.{deep, significand, exponent}
 use Rattle.rounding.proofs.Scaled.{deep-is}
-use Rattle.roots.specs.Root.{rootNearest}
+use Rattle.exact_roots.specs.Root.{rootNearest}
 use Rattle.exact_roots.specs.CutRoot.{stickMore}
-use Rattle.roots.specs.Hypot.{hypotOf}
+use Rattle.exact_roots.specs.Hypot.{hypotOf}
 use Rattle.exact_roots.proofs.RootLaw.{root-rounded}
-use Rattle.roots.proofs.Parted.{Parted, exponents-rise}
-use Rattle.roots.proofs.Far.{far-root, own-pattern}
+use Rattle.exact_roots.proofs.Parted.{Parted, exponents-rise}
+use Rattle.exact_roots.proofs.Far.{far-root, own-pattern}
 
 -- ---- two finite values, by their sizes
 of-values : (x y : Float) (a b : ℕ) → HasValue x false a (2 ^ 1074) → HasValue y false b (2 ^ 1074) → hypotOf binary64 x y ≡ rootNearest binary64 (a * a + b * b)

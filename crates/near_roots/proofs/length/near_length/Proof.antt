@@ -8,11 +8,11 @@ use lib.Ieee.{binary64, toBits}
 use Rattle.number.proofs.Order.{equals-itself, not-nan}
 use Rattle.rounding.proofs.Scaled.{no-nan}
 use Rattle.rounding.proofs.Unpack.{code-field, code-exponent}
-use Rattle.roots.proofs.Parted.{parted}
-use Rattle.roots.proofs.Lengths.{Both, code-near}
-use Rattle.roots.proofs.Tested.{code-packed, code-pattern}
-use Rattle.roots.proofs.hypot.near_length.Statement.{statement}
-use Rattle.roots.proofs.hypot.near_length.Tie as tie
+use Rattle.exact_roots.proofs.Parted.{parted}
+use Rattle.exact_roots.proofs.Lengths.{Both, code-near}
+use Rattle.near_roots.proofs.Tested.{code-packed, code-pattern}
+use Rattle.near_roots.proofs.length.near_length.Statement.{statement}
+use Rattle.near_roots.proofs.length.near_length.Tie as tie
 
 -- both are normal
 normal : (c : tie.Start) → (2 ^ 52 ≤ c .args .b) × (2 ^ 52 ≤ c .args .a) × (c .args .a < 0x7ff0_0000_0000_0000)
@@ -60,17 +60,14 @@ sub-upper-sum c = search needs
 upper-sum-requires : tie.Need-upper-sum-requires
 upper-sum-requires c κs = search needs
 
-in-floats-requires : tie.Need-in-floats-requires
-in-floats-requires c κs = search needs
-
-finite-length-requires : tie.Need-finite-length-requires
-finite-length-requires c κs = search needs
+of-whole-requires : tie.Need-of-whole-requires
+of-whole-requires c κs = search needs
 
 returns : tie.Need-returns
-returns c = search needs
+returns c = tt
 
 float-to-bits-u : tie.Need-float-to-bits-u
-float-to-bits-u c = let g = c .before .in-floats .result in not-nan g (equals-itself g (c .if1 .left))
+float-to-bits-u c = let g = c .before .of-whole .result in not-nan g (equals-itself g (c .if1 .left))
 
 mul-u : tie.Need-mul-u
 mul-u c = search needs
@@ -84,21 +81,21 @@ sub-low c = search needs
 is-nearest-requires : tie.Need-is-nearest-requires
 is-nearest-requires c κs = search needs
 
-sub-result : tie.Need-sub-result
-sub-result c = search needs
+sub-t14 : tie.Need-sub-t14
+sub-t14 c = search needs
 
-sub-result-2 : tie.Need-sub-result-2
-sub-result-2 c = search needs
+sub-t15 : tie.Need-sub-t15
+sub-t15 c = search needs
 
-mul-result : tie.Need-mul-result
-mul-result c = search needs
+mul-t16 : tie.Need-mul-t16
+mul-t16 c = search needs
 
-add-result : tie.Need-add-result
-add-result c = search needs
+add-t18 : tie.Need-add-t18
+add-t18 c = search needs
 
-float-from-bits-result : tie.Need-float-from-bits-result
-float-from-bits-result c =
-    let b = toBits binary64 (c .before .before .before .before .in-floats .result) in
+float-from-bits-t19 : tie.Need-float-from-bits-t19
+float-from-bits-t19 c =
+    let b = toBits binary64 (c .before .before .before .before .of-whole .result) in
     no-nan _ (code-pattern _ ((b % 2 ^ 52 * 2048 + 2 ^ 63) / 2 ^ 11) (omega (arith, placed (fields-at c) .1)) (digits b .1))
 
 returns-2 : tie.Need-returns-2
@@ -107,7 +104,7 @@ returns-2 c =
     let s = v .before .before in
     let p = v .before .fields .result in
     let q = v .fields2 .result in
-    let b = toBits binary64 (c .before .before .before .before .in-floats .result) in
+    let b = toBits binary64 (c .before .before .before .before .of-whole .result) in
     let h = c .before .before .before .before .before .upper-sum in
     let n = p .m * 4 * (p .m * 4) + q .m * 4 * (q .m * 4) / 2 ^ ((p .k - q .k) * 2) in
     let t = q .m * 4 * (q .m * 4) % 2 ^ ((p .k - q .k) * 2) in
@@ -115,11 +112,8 @@ returns-2 c =
     code-packed n t ((b % 2 ^ 52 * 2048 + 2 ^ 63) / 2 ^ 11) (p .k) (digits b .0) (digits b .1) (placed v .0) (placed v .1) (h .result) (h .ensures .0) (h .ensures .2) w
     ∙ code-near (s .args .a) (s .args .b) (p .m) (p .k) (q .m) (q .k) (both v)
 
-finite-length-requires-2 : tie.Need-finite-length-requires-2
-finite-length-requires-2 c κs = search needs
-
 returns-3 : tie.Need-returns-3
-returns-3 c = search needs
+returns-3 c = tt
 
 pub near-length-spec : {M : Type 1} → statement M
 near-length-spec =
@@ -129,19 +123,17 @@ near-length-spec =
     fields-requires-2
     sub-upper-sum
     upper-sum-requires
-    in-floats-requires
-    finite-length-requires
+    of-whole-requires
     returns
     float-to-bits-u
     mul-u
     add-u
     sub-low
     is-nearest-requires
-    sub-result
-    sub-result-2
-    mul-result
-    add-result
-    float-from-bits-result
+    sub-t14
+    sub-t15
+    mul-t16
+    add-t18
+    float-from-bits-t19
     returns-2
-    finite-length-requires-2
     returns-3)

@@ -5,9 +5,9 @@ use native.Mathlib.Omega.{arith}
 use borrow.Author.Needs.{needs}
 use lib.Dec.{ltb→lt, lit≤}
 use Rattle.number.proofs.Order.{holds}
-use Rattle.roots.proofs.Tested.{code-wide, room, code-nearest}
-use Rattle.roots.proofs.near_root.is_nearest.Statement.{statement}
-use Rattle.roots.proofs.near_root.is_nearest.Tie as tie
+use Rattle.near_roots.proofs.Tested.{code-wide, room, code-nearest}
+use Rattle.near_roots.proofs.nearest.is_nearest.Statement.{statement}
+use Rattle.near_roots.proofs.nearest.is_nearest.Tie as tie
 
 -- u is 2 ^ 11 times a number of 53 digits
 digits : (c : tie.Start) → (c .args .u ≡ c .args .u / 2 ^ 11 * 2048) × (2 ^ 52 ≤ c .args .u / 2 ^ 11) × (c .args .u / 2 ^ 11 < 2 ^ 53)

@@ -1,5 +1,5 @@
 -- A guess that is tested and found to be the root: the code of `is_nearest`, and the pattern that is made of it.
-use mathlib.Core.Path.{_≡_, refl, sym, ap, _∙_}
+use mathlib.Core.Path.{_≡_, refl, sym, ap, _∙_, subst}
 use mathlib.Core.Logic.{inr}
 use Prim.Native.Nat.{ℕ, zero, suc, _+_, _-_, _*_, _/_, _%_, _^_, _≤_, _<_}
 use native.Mathlib.Nat.{le-trans, lt-of-lt-of-le, zero-add, mul-one, mul-le-mul, mul-le-mul-left, le-div-iff-mul-le}
@@ -9,13 +9,19 @@ use lib.Dec.{lit<, lit≤}
 use lib.Pow.{pow-pos, pow-mono}
 use lib.Ieee.{binary64, ofBits, round}
 use lib.Ieee.Nearest.{closest}
+use Rattle.number.proofs.Patterns.{sizeAt}
 use Rattle.rounding.specs.Packing.{deep}
 use Rattle.rounding.proofs.Powers.{three-powers}
 use Rattle.rounding.proofs.Pack.{packed}
 use Rattle.rounding.proofs.Scaled.{deep-is}
+use Rattle.rounding.proofs.Unpack.{code-field, code-exponent}
 use Rattle.exact_roots.specs.CutRoot.{stickMore}
 use Rattle.exact_roots.specs.NearRoot.{Within}
+use Rattle.exact_roots.specs.Root.{sqrtOf}
 use Rattle.exact_roots.proofs.NearRoots.{at-least-twice, within-steps, within-closest}
+use Rattle.exact_roots.proofs.SqrtCases.{of-pattern}
+use Rattle.exact_roots.proofs.Parted.{Parted, parted}
+use Rattle.exact_roots.proofs.Sqrts.{placed-in, code-root}
 
 -- ---- the code of `is_nearest`: u is the upper word of the square, v and t are the differences, which wrap
 apart : (h u v w t : ℕ) → 2 ^ 60 ≤ h → h < 2 ^ 64 → 2 ^ 60 ≤ u → w < 2 ^ 11 → v < 2 ^ 64 → (v + h) % 2 ^ 64 ≡ u → t ≡ (v + w) % 2 ^ 64 → t < 2 * w
@@ -125,7 +131,7 @@ module _ (q t r k : ℕ) (R : 2 ^ 52 ≤ r) (S : r < 2 ^ 53) (K : 53 ≤ k) (L :
         full = inr f;
       }) s
 
-  by-step : (l : ℕ) → l < 2 → 2 ^ 108 ≤ q → (l ≡ 0 → 2 ^ 110 ≤ q) → Within q r (2 ^ (2 - l))
+  pub by-step : (l : ℕ) → l < 2 → 2 ^ 108 ≤ q → (l ≡ 0 → 2 ^ 110 ≤ q) → Within q r (2 ^ (2 - l))
       → ofBits binary64 ((k - 52 - l) * 2 ^ 52 + r) ≡ round binary64 false (w * 2 ^ (k + 1270)) (2 ^ deep)
   by-step zero i Q g n =
       let s = within-steps q t r 4 (omega arith) (lit< tt) n in
@@ -142,3 +148,63 @@ module _ (q t r k : ℕ) (R : 2 ^ 52 ≤ r) (S : r < 2 ^ 53) (K : 53 ≤ k) (L :
 -- and it is no NaN's
 pub code-pattern : (d r : ℕ) → d < 2046 → r < 2 ^ 53 → d * 2 ^ 52 + r ≤ 0x7ff0_0000_0000_0000
 code-pattern d r D R = omega arith
+
+-- ---- the code of `is_root`: in quarter steps it is the root that `code-root` has
+quarter : (n r : ℕ) → Within (4 * n) r 4 → Within n r 2
+quarter n r W = (go (2 * r - 1) (W .0), omega (arith, W .1))
+  where
+    go : (z : ℕ) → z * 4 * (z * 4) < 4 * n → z * 2 * (z * 2) < n
+    go z h = omega arith
+
+-- the digits lie one higher where the exponent is even
+halved : (m k : ℕ) → m < 2 ^ 53 → m * 2048 / 2 ^ (k % 2) * 2 ^ 48 ≡ 4 * (m * 2 ^ ((k + 52 + 1) % 2) % 2 ^ 64 * 256 * 2 ^ 48 + 0)
+halved m k M = go (k % 2) ((k + 52 + 1) % 2) (omega arith)
+  where
+    go : (z y : ℕ) → z + y ≡ 1 → m * 2048 / 2 ^ z * 2 ^ 48 ≡ 4 * (m * 2 ^ y % 2 ^ 64 * 256 * 2 ^ 48 + 0)
+    go zero zero e = absurd (omega arith)
+    go zero (suc zero) e = omega arith
+    go zero (suc (suc y)) e = absurd (omega arith)
+    go (suc zero) zero e = omega arith
+    go (suc zero) (suc y) e = absurd (omega arith)
+    go (suc (suc z)) y e = absurd (omega arith)
+
+-- and fill a word, or all but its last
+pub lined-ge : (m k : ℕ) → 2 ^ 52 ≤ m → 2 ^ 60 ≤ m * 2048 / 2 ^ (k % 2)
+lined-ge m k M = go (k % 2) (omega arith)
+  where
+    go : (z : ℕ) → z < 2 → 2 ^ 60 ≤ m * 2048 / 2 ^ z
+    go zero l = omega arith
+    go (suc zero) l = omega arith
+    go (suc (suc z)) l = absurd (omega arith)
+
+module _ (b c : ℕ) (A : 2 ^ 52 ≤ b) (B : b < 0x7ff0_0000_0000_0000) where
+  abbrev digits : ℕ
+  digits = b % 2 ^ 52 + 2 ^ 52
+
+  abbrev half : ℕ
+  half = (b / 2 ^ 52 + 52 + 1) / 2
+
+  abbrev lined-up : ℕ
+  lined-up = digits * 2 ^ ((b / 2 ^ 52 + 52 + 1) % 2) % 2 ^ 64 * 256 * 2 ^ 48 + 0
+
+  some : 0 < b
+  some = omega arith
+
+  parts : Parted b digits (b / 2 ^ 52 + 52)
+  parts = parted b digits (b / 2 ^ 52 + 52) B (code-field b A, code-exponent b A)
+
+  pub code-is-root : (m r : ℕ) → m ≡ digits → r ≡ c % 2 ^ 52 + 2 ^ 52 → c / 2 ^ 52 ≡ (b / 2 ^ 52 + 1023) / 2
+      → Within (m * 2048 / 2 ^ (b / 2 ^ 52 % 2) * 2 ^ 48) (r * 2048 / 2 ^ 11) 4 → ofBits binary64 c ≡ sqrtOf binary64 (ofBits binary64 b)
+  code-is-root m r M R e W =
+      let p = parts in
+      let i = placed-in (sizeAt binary64 b) digits (b / 2 ^ 52 + 52) (p .value) (p .full some) (p .under) .0 in
+      let v : r * 2048 / 2 ^ 11 ≡ r = omega arith in
+      let g = ap (λ (x : ℕ). x * 2048 / 2 ^ (b / 2 ^ 52 % 2) * 2 ^ 48) M ∙ halved digits (b / 2 ^ 52) (p .under) in
+      let n = quarter lined-up r (rw (sym g) (subst (λ (x : ℕ). Within (m * 2048 / 2 ^ (b / 2 ^ 52 % 2) * 2 ^ 48) x 4) v W)) in
+      let d : half + 537 + 1270 ≡ half + 1807 = omega arith in
+      let f : c ≡ (half + 537 - 52 - 1) * 2 ^ 52 + r = omega arith in
+      ap (ofBits binary64) f
+      ∙ by-step lined-up 0 r (half + 537) (omega arith) (omega arith) (omega arith) (omega arith) 1 (lit< tt) (omega (arith, i)) (λ z. absurd (omega (arith, z))) n
+      ∙ ap (λ (x : ℕ). round binary64 false (stickMore lined-up 0 * 2 ^ x) (2 ^ deep)) d
+      ∙ code-root (sizeAt binary64 b) digits (b / 2 ^ 52 + 52) (p .value) (p .full some) (p .under)
+      ∙ sym (of-pattern b some B)

@@ -3,9 +3,9 @@ use Prim.Native.Nat.{_/_}
 use native.Mathlib.Nat.{lt-of-lt-of-le}
 use borrow.Author.Needs.{needs}
 use lib.Dec.{lit≤}
-use Rattle.roots.proofs.UpperSums.{code-sum}
-use Rattle.roots.proofs.near_root.upper_sum.Statement.{statement}
-use Rattle.roots.proofs.near_root.upper_sum.Tie as tie
+use Rattle.near_roots.proofs.UpperSums.{code-sum}
+use Rattle.near_roots.proofs.length.upper_sum.Statement.{statement}
+use Rattle.near_roots.proofs.length.upper_sum.Tie as tie
 
 mul-x : tie.Need-mul-x
 mul-x c = search needs

@@ -1,0 +1,4 @@
+-- The laws, in reading order.
+pub mod WholeFloats
+pub mod UpperSums
+pub mod Tested

@@ -1,0 +1,2 @@
+-- What is said of a guess.
+pub mod Guesses
