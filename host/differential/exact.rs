@@ -92,7 +92,20 @@ fn is_nearest(r: u64, twice: impl Fn(&Whole) -> Ordering) -> bool {
         && (r == 0 || on_its_side(r - 1, Ordering::Greater))
 }
 
+/// A finite magnitude as a whole number of less than 2^53, and how often it is doubled: units again.
+fn digits(magnitude: u64) -> (u64, i32) {
+    let (field, fraction) = (magnitude >> 52, magnitude & ((1 << 52) - 1));
+    if field == 0 {
+        (fraction, 0)
+    } else {
+        (fraction | 1 << 52, field as i32 - 1)
+    }
+}
+
 /// "plus and minus zero and plus infinity give themselves; other negatives and NaN give NaN; else the nearest"
+///
+/// A root has 53 digits, s, and at most 110 digits tell all: x and the squares of the points half way to its neighbours, on a grid of quarters of its last digit.
+/// None of them is a double's root, so that there is no tie.
 pub fn is_root(x: u64, r: u64) -> bool {
     if x == 0 || x == SIGN || x == INFINITY {
         return r == x;
@@ -100,8 +113,18 @@ pub fn is_root(x: u64, r: u64) -> bool {
     if x > INFINITY {
         return r == NAN;
     }
-    let four_times = units(x).shifted(1074 + 2);
-    is_nearest(r, |k| four_times.compared_with(&k.times(k)))
+    if !(1 << 52..INFINITY).contains(&r) {
+        return false;
+    }
+    let ((m, e), (s, f)) = (digits(x), digits(r));
+    let up = e + 1074 - 2 * f + 4;
+    if !(0..64 + m.leading_zeros() as i32).contains(&up) {
+        return false;
+    }
+    let (m, s) = (u128::from(m) << up, u128::from(s));
+    let lower = 4 * s - if s == 1 << 52 { 1 } else { 2 };
+    let upper = 4 * s + 2;
+    lower * lower < m && m < upper * upper
 }
 
 /// "an infinite part gives plus infinity; else a NaN part gives NaN; else nearest to the root of x² + y²"

@@ -107,3 +107,45 @@ pub fn patterns(entry: Entry, random: &mut Random) -> [u64; 3] {
 fn square(x: u64) -> u64 {
     pattern(f64::from_bits(x) * f64::from_bits(x))
 }
+
+/// The pattern of a magnitude that has one of all 2^11 exponents, with all its digits or few.
+fn of_any_exponent(random: &mut Random) -> u64 {
+    let digits = random.next() >> 12;
+    let short = !0 << random.below(53);
+    random.below(2048) << 52 | if random.one_in(2) { digits } else { digits & short }
+}
+
+/// The double below the square of a point half way between two doubles, of any exponent that such a square has: its root is as near to that point as one can be.
+fn square_of_half_way(random: &mut Random) -> u64 {
+    let half_way = u128::from((random.next() >> 11 | 1 << 52) * 2 + 1);
+    let square = half_way * half_way;
+    let size = 128 - square.leading_zeros();
+    let digits = (square >> (size - 53)) as u64;
+    let exponent = 2 * random.below(1023) + u64::from(size - 106);
+    exponent << 52 | digits & ((1 << 52) - 1)
+}
+
+/// Patterns for the root: squares of doubles and of points half way, their neighbours, subnormals, every exponent.
+pub fn for_the_root(random: &mut Random) -> [u64; 3] {
+    let x = match random.below(6) {
+        0 => random.next() >> (12 + random.below(52)),
+        1 => square_of_half_way(random),
+        2 => {
+            let half_way = square_of_half_way(random);
+            random.beside(half_way)
+        }
+        3 => of_any_exponent(random),
+        _ => return patterns(Entry::Sqrt, random),
+    };
+    [x, 0, 0]
+}
+
+/// Patterns for a length: every exponent, and parts as far apart as make a difference, or a little further.
+pub fn for_a_length(random: &mut Random) -> [u64; 3] {
+    if random.one_in(2) {
+        return patterns(Entry::Hypot, random);
+    }
+    let (x, y) = (of_any_exponent(random), of_any_exponent(random));
+    let apart = (x >> 52).saturating_sub(random.below(31)) << 52;
+    [x, apart | y & ((1 << 52) - 1), 0]
+}

@@ -8,7 +8,7 @@
 //! | argument | meaning |
 //! |---|---|
 //! | minutes=10 | how long to run, if no count is given |
-//! | leaves=N recoveries=N conversions=N walks=N | exact counts in place of a time; what is not named is left out |
+//! | leaves=N recoveries=N conversions=N walks=N roots=N lengths=N | exact counts in place of a time; what is not named is left out |
 //! | fixed=no | leaves out the short inputs and the limits, which are the same in every run |
 //! | seed=N | what the generated inputs follow from |
 //! | threads=1 | they change the time only, not what is tried (with counts) |
@@ -95,6 +95,8 @@ fn plan() -> Plan {
             ("recoveries", n) => plan.counts.get_or_insert_default()[1] = number(n),
             ("conversions", n) => plan.counts.get_or_insert_default()[2] = number(n),
             ("walks", n) => plan.counts.get_or_insert_default()[3] = number(n),
+            ("roots", n) => plan.counts.get_or_insert_default()[4] = number(n),
+            ("lengths", n) => plan.counts.get_or_insert_default()[5] = number(n),
             ("fixed", "no") => plan.fixed = false,
             ("seed", n) => plan.seed = number(n),
             ("threads", n) => plan.threads = number(n).max(1),

@@ -24,7 +24,7 @@ const STACK: usize = 8 << 20;
 #[derive(Clone)]
 pub struct Plan {
     pub seconds: f64,
-    /// Exact counts of leaf calls, recoveries, conversions and walks, in place of a time.
+    /// Exact counts of leaf calls, recoveries, conversions, walks, roots and lengths, in place of a time.
     pub counts: Option<[u64; PARTS.len()]>,
     pub fixed: bool,
     pub seed: u64,
@@ -51,7 +51,7 @@ impl Default for Plan {
     }
 }
 
-/// One of the parts of what is generated: leaf calls, recoveries, conversions, whole walks.
+/// One of the parts of what is generated: leaf calls, recoveries, conversions, whole walks, roots, lengths.
 struct Part {
     /// The cases of one block, all from one generator.
     block: u64,
@@ -61,11 +61,13 @@ struct Part {
     cost: u64,
 }
 
-const PARTS: [Part; 4] = [
-    Part { block: 8000, share: 0.2, cost: 1_300 },
+const PARTS: [Part; 6] = [
+    Part { block: 8000, share: 0.1, cost: 1_300 },
     Part { block: 1000, share: 0.3, cost: 4_000 },
     Part { block: 400, share: 0.3, cost: 10_000 },
     Part { block: 100, share: 0.2, cost: 8 * STEP_COST },
+    Part { block: 8000, share: 0.05, cost: 1_300 },
+    Part { block: 8000, share: 0.05, cost: 1_300 },
 ];
 
 /// A walk has about eight calls.
@@ -206,10 +208,12 @@ impl Worker<'_> {
                 }
                 1 => _ = self.compare(&requests::case(&mut random)),
                 2 => _ = self.compare(&profiles::case(&mut random)),
-                _ => {
+                3 => {
                     let (mut course, first) = walks::walk(&mut random);
                     self.walk(&first, |after| course.next(after, &mut random));
                 }
+                4 => self.compare_leaf(Entry::Sqrt, leaves::for_the_root(&mut random)),
+                _ => self.compare_leaf(Entry::Hypot, leaves::for_a_length(&mut random)),
             }
         }
     }

@@ -30,7 +30,7 @@ above n r q m h k =
     let b = squares m r in
     omega arith
 
-pub round-above : (n r : ℕ) → 0 < r → n < ((r + n / r) / 2 + 1) * ((r + n / r) / 2 + 1)
+round-above : (n r : ℕ) → 0 < r → n < ((r + n / r) / 2 + 1) * ((r + n / r) / 2 + 1)
 round-above n r R = above n r (n / r) ((r + n / r) / 2 + 1) (div-lt-iff-lt-mul R .0 (lt-suc-self (n / r))) (omega arith)
 
 -- ---- and less than the number, where that is above the root
@@ -41,13 +41,20 @@ root-pos n (suc r) h = omega arith
 pub round-below : (n r : ℕ) → n < r * r → (r + n / r) / 2 < r
 round-below n r h = let a : n / r < r = div-lt-iff-lt-mul (root-pos n r h) .1 h in omega arith
 
--- ---- the first round fits
-pub first-fits : (n g : ℕ) → n < g * 2 ^ 32 → g < 2 ^ 32 → g + n / g < 2 ^ 33
-first-fits n g N G =
-    let p : 0 < g = omega arith in
-    let q : n < 2 ^ 32 * g = omega arith in
-    let l : n / g < 2 ^ 32 = div-lt-iff-lt-mul p .1 q in
-    omega arith
+-- ---- a round from between n / 2 ^ 32 and 2 ^ 32 ends no lower than the root, and below 2 ^ 32; so then does the next
+pub round-ends : (n r s : ℕ) → n < r * 2 ^ 32 → r < 2 ^ 32 → s ≡ (r + n / r) / 2 → (n < (s + 1) * (s + 1)) × (s < 2 ^ 32)
+round-ends n r s N R e =
+    let p : 0 < r = omega arith in
+    let q : n < 2 ^ 32 * r = omega arith in
+    let l : n / r < 2 ^ 32 = div-lt-iff-lt-mul p .1 q in
+    (rw e (round-above n r p), omega arith)
+
+pub again-between : (n r : ℕ) → n < 2 ^ 63 → 0 < r → n < (r + 1) * (r + 1) → n < r * 2 ^ 32
+again-between n r N R h = go (leb (2 ^ 31) r) (leb→le (2 ^ 31) r) (nleb→lt (2 ^ 31) r)
+  where
+    go : (t : Bool) → (T t → 2 ^ 31 ≤ r) → (T (not t) → r < 2 ^ 31) → n < r * 2 ^ 32
+    go true x y = let l = x tt in omega arith
+    go false x y = let l = y tt in let q : r * r ≤ 2 ^ 31 * r = mul-le-mul-right r (omega arith) in omega arith
 
 -- ---- 24 digits more, of (s * s + t) * 2 ^ 48 + l
 module _ (s t l : ℕ) (S : 2 ^ 30 ≤ s) (R : t ≤ 2 * s) (L : l < 2 ^ 48) where

@@ -1,13 +1,13 @@
 // The whole part of a root, twice, and one more where the root is not whole: all that rounding has to know of it.
 ghost use mathlib.Core.Path.{_≡_};
-ghost use Prim.Native.Nat.{_+_, _*_, _^_, _<_, _≤_};
+ghost use Prim.Native.Nat.{_+_, _*_, _/_, _^_, _<_, _≤_};
 ghost use Rattle.exact_roots.specs.CutRoot.{stickMore};
 
-// Where Heron's rounds start. In each octave, told by the leading zero count, a straight line is never more than 1 in 133 away from the root. Any
+// Where Heron's rounds start. In each octave, which the leading zero count tells, a straight line is never more than 1 in 133 away from the root. Any
 // number of this range will do.
 fn guess(n: u64) -> u64
     requires { ⌜ n < 2 ^ 63 ⌝ }
-    ensures { λ r. ⌜ (n < r * 2 ^ 32) × (r < 2 ^ 32) ⌝ }
+    ensures { λ r. ⌜ (2 ^ 29 ≤ r) × (n < r * 2 ^ 32) × (r < 2 ^ 32) ⌝ }
 {
     let d = n >> 32;
     match u64::leading_zeros(n) {
@@ -17,15 +17,24 @@ fn guess(n: u64) -> u64
     }
 }
 
-// The whole part of n's root, by Heron's rounds. From the first on they give no less than the root, and fall until they reach it.
+// A round of Heron: the mean of s and n / s.
+fn closer(n: u64, s: u64) -> u64
+    requires { ⌜ (n < 2 ^ 63) × (0 < s) × (s < 2 ^ 32) ⌝ }
+    ensures { λ r. ⌜ r ≡ (s + n / s) / 2 ⌝ }
+{
+    (s + n / s) / 2
+}
+
+// The whole part of n's root, by Heron's rounds. From the first on they give no less than the root, and fall until they reach it: most often with the
+// second.
 fn heron(n: u64) -> u64
     requires { ⌜ n < 2 ^ 63 ⌝ }
     ensures { λ r. ⌜ (r * r ≤ n) × (n < (r + 1) * (r + 1)) ⌝ }
 {
-    let g = guess(n);
-    let mut s = (g + n / g) / 2;
+    let first = closer(n, guess(n));
+    let mut s = closer(n, first);
     while n < s * s {
-        s = (s + n / s) / 2;
+        s = closer(n, s);
     }
     s
 }
