@@ -41,20 +41,31 @@ root-pos n (suc r) h = omega arith
 pub round-below : (n r : ℕ) → n < r * r → (r + n / r) / 2 < r
 round-below n r h = let a : n / r < r = div-lt-iff-lt-mul (root-pos n r h) .1 h in omega arith
 
--- ---- a round from between n / 2 ^ 32 and 2 ^ 32 ends no lower than the root, and below 2 ^ 32; so then does the next
+-- ---- where the rounds start, between n / 2 ^ 32 and 2 ^ 32: a round on the upper digits alone, from g
+module _ (n g : ℕ) (L : 2 ^ 13 ≤ g) (G : g < 65000) (D : n / 2 ^ 32 < g * 65000) where
+  abbrev upper-digits : ℕ
+  upper-digits = n / 2 ^ 32
+
+  pub quotient-fits : upper-digits / g < 65000
+  quotient-fits =
+      let p : 0 < g = omega arith in
+      let q : upper-digits < 65000 * g = omega arith in
+      div-lt-iff-lt-mul p .1 q
+
+  pub start-between : n < (g + upper-digits / g) * 32768 * 2 ^ 32
+  start-between =
+      go ((g + upper-digits / g) / 2) (round-above upper-digits g (omega arith)) (omega (arith, quotient-fits))
+    where
+      go : (y : ℕ) → upper-digits < (y + 1) * (y + 1) → (2 ^ 12 ≤ y) × (y < 65000) × (2 * y ≤ g + upper-digits / g) → n < (g + upper-digits / g) * 32768 * 2 ^ 32
+      go y h (a, b, c) = let q : y * y ≤ 65000 * y = mul-le-mul-right y (omega arith) in omega arith
+
+-- ---- a round from there ends no lower than the root, and below 2 ^ 32
 pub round-ends : (n r s : ℕ) → n < r * 2 ^ 32 → r < 2 ^ 32 → s ≡ (r + n / r) / 2 → (n < (s + 1) * (s + 1)) × (s < 2 ^ 32)
 round-ends n r s N R e =
     let p : 0 < r = omega arith in
     let q : n < 2 ^ 32 * r = omega arith in
     let l : n / r < 2 ^ 32 = div-lt-iff-lt-mul p .1 q in
     (rw e (round-above n r p), omega arith)
-
-pub again-between : (n r : ℕ) → n < 2 ^ 63 → 0 < r → n < (r + 1) * (r + 1) → n < r * 2 ^ 32
-again-between n r N R h = go (leb (2 ^ 31) r) (leb→le (2 ^ 31) r) (nleb→lt (2 ^ 31) r)
-  where
-    go : (t : Bool) → (T t → 2 ^ 31 ≤ r) → (T (not t) → r < 2 ^ 31) → n < r * 2 ^ 32
-    go true x y = let l = x tt in omega arith
-    go false x y = let l = y tt in let q : r * r ≤ 2 ^ 31 * r = mul-le-mul-right r (omega arith) in omega arith
 
 -- ---- 24 digits more, of (s * s + t) * 2 ^ 48 + l
 module _ (s t l : ℕ) (S : 2 ^ 30 ≤ s) (R : t ≤ 2 * s) (L : l < 2 ^ 48) where

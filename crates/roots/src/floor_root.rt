@@ -3,18 +3,26 @@ ghost use mathlib.Core.Path.{_≡_};
 ghost use Prim.Native.Nat.{_+_, _*_, _/_, _^_, _<_, _≤_};
 ghost use Rattle.exact_roots.specs.CutRoot.{stickMore};
 
-// Where Heron's rounds start. In each octave, which the leading zero count tells, a straight line is never more than 1 in 133 away from the root. Any
-// number of this range will do.
+// Near the root of d. In each octave, which the leading zero count tells, a straight line is never more than 1 in 100 away from it.
+fn line(d: u64) -> u64
+    requires { ⌜ d < 2 ^ 31 ⌝ }
+    ensures { λ r. ⌜ (2 ^ 13 ≤ r) × (r < 65000) × (d < r * 65000) ⌝ }
+{
+    match u64::leading_zeros(d) {
+        35 => 0x25fb + (d * 0x1_aa48 >> 32),
+        34 => 0x35b7 + (d * 0x1_2d6d >> 32),
+        _ => 0x4bf6 + (d * 0xd524 >> 32),
+    }
+}
+
+// Near the root of n: a round of Heron from the line, on the upper digits of n alone. Any number of this range will do.
 fn guess(n: u64) -> u64
     requires { ⌜ n < 2 ^ 63 ⌝ }
-    ensures { λ r. ⌜ (2 ^ 29 ≤ r) × (n < r * 2 ^ 32) × (r < 2 ^ 32) ⌝ }
+    ensures { λ r. ⌜ (n < r * 2 ^ 32) × (r < 2 ^ 32) ⌝ }
 {
     let d = n >> 32;
-    match u64::leading_zeros(n) {
-        1 => 0x4b8a_6e3d + (d * 0xd5a9 >> 16),
-        2 => 0x356a_55de + (d * 0x1_2e2a >> 16),
-        _ => 0x25c5_371e + (d * 0x1_ab53 >> 16),
-    }
+    let g = line(d);
+    (g + d / g) * 0x8000
 }
 
 // A round of Heron: the mean of s and n / s.
@@ -25,14 +33,12 @@ fn closer(n: u64, s: u64) -> u64
     (s + n / s) / 2
 }
 
-// The whole part of n's root, by Heron's rounds. From the first on they give no less than the root, and fall until they reach it: most often with the
-// second.
+// The whole part of n's root, by Heron's rounds. From the first on they give no less than the root, and fall until they reach it: most often at once.
 fn heron(n: u64) -> u64
     requires { ⌜ n < 2 ^ 63 ⌝ }
     ensures { λ r. ⌜ (r * r ≤ n) × (n < (r + 1) * (r + 1)) ⌝ }
 {
-    let first = closer(n, guess(n));
-    let mut s = closer(n, first);
+    let mut s = closer(n, guess(n));
     while n < s * s {
         s = closer(n, s);
     }
