@@ -24,8 +24,8 @@ fn upper_sum(m: u64, n: u64, d: u64) -> u64
 // From two normal patterns that are not far apart, the larger first. The length's exponent is the larger's, or one more, and then below an
 // infinity's.
 fn near_length(a: u64, b: u64) -> Guess
-    requires { ⌜ (27 ≤ a / 2 ^ 52) × (b ≤ a) × (a / 2 ^ 52 < 2046) × (a / 2 ^ 52 - b / 2 ^ 52 < 27) ⌝ }
-    ensures { λ g. ⌜ OnlyRight (hypotOf binary64 (ofBits binary64 a) (ofBits binary64 b)) g ⌝ }
+    requires { ⌜ (27 ≤ a / 2 ^ 52) × (a / 2 ^ 52 < 2046) × (b / 2 ^ 52 ≤ a / 2 ^ 52) × (a / 2 ^ 52 - b / 2 ^ 52 < 27) ⌝ }
+    ensures { λ g. ⌜ (b ≤ a → OnlyRight (hypotOf binary64 (ofBits binary64 a) (ofBits binary64 b)) g) ⌝ }
 {
     let p = packing::fields(a);
     let q = packing::fields(b);
@@ -42,17 +42,15 @@ fn near_length(a: u64, b: u64) -> Guess
     Guess::Wrong
 }
 
-// From two patterns without a sign, the larger first. Others are told that nothing is known.
+// From two patterns without a sign, the larger first. The difference of two exponents wraps where the second is larger, and is then no small one.
 pub fn guessed(a: u64, b: u64) -> Guess
-    ensures { λ g. ⌜ OnlyRight (hypotOf binary64 (ofBits binary64 a) (ofBits binary64 b)) g ⌝ }
+    ensures { λ g. ⌜ (b ≤ a → OnlyRight (hypotOf binary64 (ofBits binary64 a) (ofBits binary64 b)) g) ⌝ }
 {
     let k = a >> 52;
-    if b <= a {
-        if k >= 27 {
-            if k < 2046 {
-                if k - (b >> 52) < 27 {
-                    return near_length(a, b);
-                }
+    if k >= 27 {
+        if k < 2046 {
+            if std::num::wrapping_sub_u64(k, b >> 52) < 27 {
+                return near_length(a, b);
             }
         }
     }

@@ -18,8 +18,9 @@ use Rattle.near_roots.proofs.length.near_length.Tie as tie
 normal : (c : tie.Start) → (2 ^ 52 ≤ c .args .b) × (2 ^ 52 ≤ c .args .a) × (c .args .a < 0x7ff0_0000_0000_0000)
 normal c = (omega (arith, c .pre), omega (arith, c .pre), omega (arith, c .pre))
 
-both : (c : tie.After-fields2) → Both (c .before .before .args .a) (c .before .before .args .b) (c .before .fields .result .m) (c .before .fields .result .k) (c .fields2 .result .m) (c .fields2 .result .k)
-both c =
+both : (c : tie.After-fields2) → c .before .before .args .b ≤ c .before .before .args .a
+    → Both (c .before .before .args .a) (c .before .before .args .b) (c .before .fields .result .m) (c .before .fields .result .k) (c .fields2 .result .m) (c .fields2 .result .k)
+both c o =
     let s = c .before .before in
     let a = s .args .a in
     let b = s .args .b in
@@ -28,9 +29,9 @@ both c =
     let n = normal s in
     record {
       first = parted a (p .result .m) (p .result .k) (n .2) (p .ensures .0 ∙ code-field a (n .1), p .ensures .1 ∙ code-exponent a (n .1));
-      second = parted b (q .result .m) (q .result .k) (lt-of-le-of-lt (s .pre .1) (n .2)) (q .ensures .0 ∙ code-field b (n .0), q .ensures .1 ∙ code-exponent b (n .0));
+      second = parted b (q .result .m) (q .result .k) (lt-of-le-of-lt o (n .2)) (q .ensures .0 ∙ code-field b (n .0), q .ensures .1 ∙ code-exponent b (n .0));
       some = lt-of-lt-of-le (lit< tt) (n .1);
-      ordered = s .pre .1;
+      ordered = o;
       below = n .2;
     }
 
@@ -39,7 +40,7 @@ placed : (c : tie.After-fields2) → (53 ≤ c .before .fields .result .k) × (c
 placed c =
     let s = c .before .before in
     let e = c .before .fields .ensures .1 in
-    (omega (arith, s .pre .0), omega (arith, s .pre .2))
+    (omega (arith, s .pre .0), omega (arith, s .pre .1))
 
 -- u, as the code has it, is 2 ^ 11 times a number of 53 digits
 digits : (b : ℕ) → (2 ^ 52 ≤ (b % 2 ^ 52 * 2048 + 2 ^ 63) / 2 ^ 11) × ((b % 2 ^ 52 * 2048 + 2 ^ 63) / 2 ^ 11 < 2 ^ 53)
@@ -64,7 +65,7 @@ of-whole-requires : tie.Need-of-whole-requires
 of-whole-requires c κs = search needs
 
 returns : tie.Need-returns
-returns c = tt
+returns c o = tt
 
 float-to-bits-u : tie.Need-float-to-bits-u
 float-to-bits-u c = let g = c .before .of-whole .result in not-nan g (equals-itself g (c .if1 .left))
@@ -99,7 +100,7 @@ float-from-bits-t19 c =
     no-nan _ (code-pattern _ ((b % 2 ^ 52 * 2048 + 2 ^ 63) / 2 ^ 11) (omega (arith, placed (fields-at c) .1)) (digits b .1))
 
 returns-2 : tie.Need-returns-2
-returns-2 c =
+returns-2 c o =
     let v = fields-at c in
     let s = v .before .before in
     let p = v .before .fields .result in
@@ -110,10 +111,10 @@ returns-2 c =
     let t = q .m * 4 * (q .m * 4) % 2 ^ ((p .k - q .k) * 2) in
     let w = c .before .before .is-nearest .ensures (c .before .if2 .taken) n (h .ensures .2) (h .ensures .3) in
     code-packed n t ((b % 2 ^ 52 * 2048 + 2 ^ 63) / 2 ^ 11) (p .k) (digits b .0) (digits b .1) (placed v .0) (placed v .1) (h .result) (h .ensures .0) (h .ensures .2) w
-    ∙ code-near (s .args .a) (s .args .b) (p .m) (p .k) (q .m) (q .k) (both v)
+    ∙ code-near (s .args .a) (s .args .b) (p .m) (p .k) (q .m) (q .k) (both v o)
 
 returns-3 : tie.Need-returns-3
-returns-3 c = tt
+returns-3 c o = tt
 
 pub near-length-spec : {M : Type 1} → statement M
 near-length-spec =

@@ -16,7 +16,7 @@ returns : tie.Need-returns
 returns c =
     let s = c .before .before .before .before in
     subst (OnlyRight (hypotOf binary64 (ofBits binary64 (s .args .a)) (ofBits binary64 (s .args .b)))) (c .before .r .given .1)
-    (c .before .before .before .guessed .ensures)
+    (c .before .before .before .guessed .ensures (s .pre .0))
 
 enum-told : tie.Need-enum-told
 enum-told c = search needs
