@@ -112,13 +112,17 @@ fn ordered(a: u64, b: u64) -> f64
     0.0 / 0.0
 }
 
-// From two patterns without a sign, the larger first. A guess that is right is the answer; else the length is worked out.
+// From two patterns without a sign, the larger first. A guess that is right is the answer; else the length is worked out. A long function that is called
+// from two places is not built into either: what has no finite length need not make room for it.
 fn tried_length(a: u64, b: u64) -> f64
     requires { ⌜ (b ≤ a) × (a < 0x8000_0000_0000_0000) ⌝ }
     ensures { λ r. ⌜ r ≡ hypotOf binary64 (ofBits binary64 a) (ofBits binary64 b) ⌝ }
 {
     if let Guess::Right(r) = length::guessed(a, b) {
         return r;
+    }
+    if a < 0x7ff0_0000_0000_0000 {
+        return finite_length(a, b);
     }
     ordered(a, b)
 }

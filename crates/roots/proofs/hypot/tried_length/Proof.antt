@@ -21,11 +21,27 @@ returns c =
 enum-told : tie.Need-enum-told
 enum-told c = search needs
 
-ordered-requires : tie.Need-ordered-requires
-ordered-requires c κs = search needs
+finite-length-requires : tie.Need-finite-length-requires
+finite-length-requires c κs = search needs
 
 returns-2 : tie.Need-returns-2
 returns-2 c = search needs
 
+ordered-requires : tie.Need-ordered-requires
+ordered-requires c κs = search needs
+
+returns-3 : tie.Need-returns-3
+returns-3 c = search needs
+
 pub tried-length-spec : {M : Type 1} → statement M
-tried-length-spec = tie.close (tie.spec guessed-requires enum-known-r returns enum-told ordered-requires returns-2)
+tried-length-spec =
+    tie.close
+    (tie.spec
+    guessed-requires
+    enum-known-r
+    returns
+    enum-told
+    finite-length-requires
+    returns-2
+    ordered-requires
+    returns-3)
