@@ -169,13 +169,10 @@ halved m k M = go (k % 2) ((k + 52 + 1) % 2) (omega arith)
     go (suc (suc z)) y e = absurd (omega arith)
 
 -- and fill a word, or all but its last
-pub lined-ge : (m k : ℕ) → 2 ^ 52 ≤ m → 2 ^ 60 ≤ m * 2048 / 2 ^ (k % 2)
-lined-ge m k M = go (k % 2) (omega arith)
-  where
-    go : (z : ℕ) → z < 2 → 2 ^ 60 ≤ m * 2048 / 2 ^ z
-    go zero l = omega arith
-    go (suc zero) l = omega arith
-    go (suc (suc z)) l = absurd (omega arith)
+pub lined-ge : (m z : ℕ) → z < 2 → 2 ^ 52 ≤ m → 2 ^ 60 ≤ m * 2048 / 2 ^ z
+lined-ge m zero l M = omega arith
+lined-ge m (suc zero) l M = omega arith
+lined-ge m (suc (suc z)) l M = absurd (omega arith)
 
 module _ (b c : ℕ) (A : 2 ^ 52 ≤ b) (B : b < 0x7ff0_0000_0000_0000) where
   abbrev digits : ℕ

@@ -4,8 +4,8 @@ use mathlib.Core.Bool.{true}
 use lib.Dec.{T}
 use lib.Ieee.{Float}
 use Rattle.near_roots.specs.declared.guess.Guess.{Guess}
-use Rattle.near_roots.specs.declared.guess.Guess.the-variants.{Right, Wrong}
+use Rattle.near_roots.specs.declared.guess.Guess.the-variants.{Right, Unknown}
 
 abbrev pub OnlyRight : Float → Guess → Type 0
 OnlyRight v (Right x) = x ≡ v
-OnlyRight v Wrong = T true
+OnlyRight v Unknown = T true

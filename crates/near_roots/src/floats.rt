@@ -1,5 +1,4 @@
 // Guesses, in floats: numbers near a root, of which nothing is promised.
-
 ghost use Prim.Native.Nat.{_<_};
 
 // From x and its pattern b: half of the exponent, and two rounds of Heron.
@@ -25,7 +24,7 @@ pub(crate) fn of_whole(h: u64) -> f64 {
     nearer(s, s * s - f - (h % 0x1_0000_0000) as f64 / 4294967296.0)
 }
 
-// Near the root of the value that has the pattern b. So is a multiple of y itself.
+// Near the root of the value that has the pattern b. Here a multiple of y is added and taken off.
 pub(crate) fn of_pattern(b: u64) -> f64
     requires { ⌜ b < 0x7ff0_0000_0000_0000 ⌝ }
 {

@@ -1,5 +1,5 @@
-// What became of a guess: right, or nothing is known.
+// What became of a guess: it is right, or nothing is known of it.
 pub enum Guess {
     Right(f64),
-    Wrong,
+    Unknown,
 }

@@ -32,17 +32,18 @@ fn near_length(a: u64, b: u64) -> Guess
     let h = upper_sum(p.m, q.m, p.k - q.k);
     let g = floats::of_whole(h);
     if g != g {
-        return Guess::Wrong;
+        return Guess::Unknown;
     }
     let u = f64::to_bits(g) % 0x10_0000_0000_0000 * 2048 + 0x8000_0000_0000_0000;
     let low = 1 - (h >> 62);
     if nearest::is_nearest(h, u, low) {
         return Guess::Right(f64::from_bits((p.k - 52 - low) * 0x10_0000_0000_0000 + (u >> 11)));
     }
-    Guess::Wrong
+    Guess::Unknown
 }
 
-// From two patterns without a sign, the larger first. The difference of two exponents wraps where the second is larger, and is then no small one.
+// A guess at the length, from two patterns without a sign, the larger first. The difference of the exponents wraps where the second is larger, and is
+// then not small.
 pub fn guessed(a: u64, b: u64) -> Guess
     ensures { λ g. ⌜ (b ≤ a → OnlyRight (hypotOf binary64 (ofBits binary64 a) (ofBits binary64 b)) g) ⌝ }
 {
@@ -54,5 +55,5 @@ pub fn guessed(a: u64, b: u64) -> Guess
             }
         }
     }
-    Guess::Wrong
+    Guess::Unknown
 }

@@ -10,7 +10,8 @@ use crate::guess::Guess;
 use crate::nearest;
 use rounding::packing;
 
-// Whether g is seen to be the root of the normal value that has the pattern b: it has half of the exponent, and its digits are the nearest.
+// Whether g is seen to be the root of the normal value that has the pattern b: it has half of the exponent, and its digits are the nearest. The number's
+// own lie one higher where its exponent is even.
 fn is_root(b: u64, g: f64) -> bool
     requires { ⌜ (2 ^ 52 ≤ b) × (b < 0x7ff0_0000_0000_0000) ⌝ }
     ensures { λ t. ⌜ (t ≡ true → g ≡ sqrtOf binary64 (ofBits binary64 b)) ⌝ }
@@ -28,7 +29,7 @@ fn is_root(b: u64, g: f64) -> bool
     nearest::is_nearest(p.m * 2048 >> k % 2, r.m * 2048, 0)
 }
 
-// Subnormal values have fewer digits than are tested.
+// A guess at the root of x. Subnormal values, which have fewer digits than are tested, are left out.
 pub fn guessed(x: f64) -> Guess
     ensures { λ g. ⌜ OnlyRight (sqrtOf binary64 x) g ⌝ }
 {
@@ -41,5 +42,5 @@ pub fn guessed(x: f64) -> Guess
             }
         }
     }
-    Guess::Wrong
+    Guess::Unknown
 }

@@ -3,7 +3,8 @@ ghost use mathlib.Core.Path.{_≡_};
 ghost use Prim.Native.Nat.{_+_, _*_, _/_, _^_, _<_, _≤_};
 ghost use Rattle.exact_roots.specs.CutRoot.{stickMore};
 
-// Near the root of d. In each octave, which the leading zero count tells, a straight line is never more than 1 in 100 away from it.
+// Near the root of d. In each octave, which the leading zero count tells, a straight line is never more than 1 in 100 away from it. Only a range is
+// promised.
 fn line(d: u64) -> u64
     requires { ⌜ d < 2 ^ 31 ⌝ }
     ensures { λ r. ⌜ (2 ^ 13 ≤ r) × (r < 65000) × (d < r * 65000) ⌝ }
@@ -15,7 +16,7 @@ fn line(d: u64) -> u64
     }
 }
 
-// Near the root of n: a round of Heron from the line, on the upper digits of n alone. Any number of this range will do.
+// Near the root of n: a round of Heron from the line, on the upper digits of n alone, which takes a shorter division. Any number of this range will do.
 fn guess(n: u64) -> u64
     requires { ⌜ n < 2 ^ 63 ⌝ }
     ensures { λ r. ⌜ (n < r * 2 ^ 32) × (r < 2 ^ 32) ⌝ }

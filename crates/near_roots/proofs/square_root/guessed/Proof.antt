@@ -1,7 +1,7 @@
 use mathlib.Core.Path.{ap, _∙_}
 use Prim.Native.Nat.{_^_, _≤_}
 use lib.Dec.{T, lit<}
-use lib.Ieee.{binary64, fits, ofBits, toBits}
+use lib.Ieee.{binary64, fits, toBits}
 use lib.Ieee.Bits.{ofBits-toBits}
 use borrow.Author.Needs.{needs}
 use Rattle.number.proofs.Order.{holds, le-number, not-nan}
@@ -15,7 +15,7 @@ held : (c : tie.Start) → T (fits binary64 (c .args .x))
 held c = holds (c .good .0 .1)
 
 float-to-bits-b : tie.Need-float-to-bits-b
-float-to-bits-b c = let x = c .before .args .x in not-nan x (le-number (ofBits binary64 (2 ^ 52)) x (holds (c .if1 .taken)) .1)
+float-to-bits-b c = let x = c .before .args .x in not-nan x (le-number _ x (holds (c .if1 .taken)) .1)
 
 normal : (c : tie.Then1) → 2 ^ 52 ≤ toBits binary64 (c .before .args .x)
 normal c = patterns-rise binary64 (2 ^ 52) (lit< tt) (c .before .args .x) (held (c .before)) (holds (c .if1 .taken))

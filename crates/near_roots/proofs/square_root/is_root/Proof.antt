@@ -43,8 +43,7 @@ is-nearest-requires : tie.Need-is-nearest-requires
 is-nearest-requires c κs =
     let r = c .before .before .fields2 in
     let p = c .before .before .before .fields in
-    let b = c .before .before .before .before .before .before .args .b in
-    (lined-ge (p .result .m) (b / 2 ^ 52) (omega (arith, p .ensures .0)), omega (arith, r .ensures .0), omega arith, lit< tt)
+    (lined-ge (p .result .m) _ (omega arith) (omega (arith, p .ensures .0)), omega (arith, r .ensures .0), omega arith, lit< tt)
 
 returns-3 : tie.Need-returns-3
 returns-3 c t =

@@ -15,6 +15,9 @@ Inv-loop n s₀ s = (n < (s + 1) * (s + 1)) × (s < 2 ^ 32)
 abbrev μ-loop : tie.MeasureT-loop
 μ-loop n s₀ s = s
 
+above : (c : tie.In-loop Inv-loop μ-loop) → c .before .before .before .before .args .n < c .before .loop .s * c .before .loop .s
+above c = omega (arith, c .loop-test .taken)
+
 guess-requires : tie.Need-guess-requires Inv-loop μ-loop
 guess-requires c κs = search needs
 
@@ -32,19 +35,19 @@ mul-loop c = record { fits = square-rises (c .loop .s) (2 ^ 32) (c .loop .inv .1
 closer-requires-2 : tie.Need-closer-requires-2 Inv-loop μ-loop
 closer-requires-2 c κs =
     let a = c .before .before .before .before in
-    (a .pre, root-pos (a .args .n) (c .before .loop .s) (c .loop-test .taken), c .before .loop .inv .1)
+    (a .pre, root-pos (a .args .n) (c .before .loop .s) (above c), c .before .loop .inv .1)
 
 loop-less : tie.Need-loop-less Inv-loop μ-loop
 loop-less c =
     let n = c .before .before .before .before .before .args .n in
     let s = c .before .before .loop .s in
-    subst (λ (x : ℕ). x < s) (sym (c .closer2 .ensures)) (round-below n s (c .before .loop-test .taken))
+    subst (λ (x : ℕ). x < s) (sym (c .closer2 .ensures)) (round-below n s (above (c .before)))
 
 loop-again : tie.Need-loop-again Inv-loop μ-loop
 loop-again c =
     let n = c .before .before .before .before .before .args .n in
     let l = c .before .before .loop in
-    let between = lt-of-lt-of-le (c .before .loop-test .taken) (mul-le-mul-left (l .s) (le-of-lt (l .inv .1))) in
+    let between = lt-of-lt-of-le (above (c .before)) (mul-le-mul-left (l .s) (le-of-lt (l .inv .1))) in
     round-ends n (l .s) (c .closer2 .result) between (l .inv .1) (c .closer2 .ensures)
 
 returns : tie.Need-returns Inv-loop μ-loop
