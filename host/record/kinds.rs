@@ -43,6 +43,7 @@ pub fn ways(entry: Entry) -> &'static [&'static str] {
             "no samples, final not due",
         ],
         Entry::WalkStart => &["patterns as given", "a NaN made plain"],
+        Entry::Sqrt | Entry::Hypot => &["special", "common", "hard"],
         _ => &["special", "common"],
     }
 }

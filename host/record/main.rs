@@ -50,6 +50,8 @@ use random::Random;
 /// Draws from each generator: enough that each kind has its share.
 const DRAWS: usize = 200_000;
 const LEAF_DRAWS: usize = 1000;
+/// So many hard roots, and as many lengths.
+const HARD_DRAWS: usize = 32;
 const SEED: u64 = 20_261_115;
 
 fn fail(message: &str) -> ! {
@@ -79,6 +81,15 @@ fn keep_leaves(kept: &mut Kept, seed: u64) {
         for _ in 0..LEAF_DRAWS {
             kept.leaf(leaf, "common", leaves::patterns(leaf, &mut random));
         }
+    }
+}
+
+/// Roots and lengths where a guess is hardest to test.
+fn keep_roots(kept: &mut Kept, seed: u64) {
+    let [mut roots, mut lengths] = [4, 5].map(|part| Random::new(seed, part, 0));
+    for _ in 0..HARD_DRAWS {
+        kept.leaf(Entry::Sqrt, "hard", leaves::for_the_root(&mut roots));
+        kept.leaf(Entry::Hypot, "hard", leaves::for_a_length(&mut lengths));
     }
 }
 
@@ -120,6 +131,7 @@ fn main() {
         kept.drawn(&profiles::case(&mut random));
     }
     whole_walks::keep(&mut kept, &mut Random::new(seed, 3, 0));
+    keep_roots(&mut kept, seed);
     println!("seed {seed}");
     kept.print();
     if let Err(error) = std::fs::write(&file, kept.file()) {
