@@ -42,7 +42,7 @@
 #include <string.h>
 
 /* CHANGELOG.md has what each version changes for a caller. */
-#define MALIKOZA_VERSION "0.3.0"
+#define MALIKOZA_VERSION "0.3.1"
 
 #ifdef __cplusplus
 extern "C" {
