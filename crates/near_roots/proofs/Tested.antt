@@ -1,4 +1,4 @@
--- A guess that is tested and found to be the root: the code of `is_nearest`, and the pattern that is made of it.
+-- A guess that is tested and found to be the root: the code of `is_nearest`, the pattern that `near_length` makes of it, and the code of `is_root`.
 use mathlib.Core.Path.{_≡_, refl, sym, ap, _∙_, subst}
 use mathlib.Core.Logic.{inr}
 use Prim.Native.Nat.{ℕ, zero, suc, _+_, _-_, _*_, _/_, _%_, _^_, _≤_, _<_}
@@ -201,7 +201,8 @@ module _ (b c : ℕ) (A : 2 ^ 52 ≤ b) (B : b < 0x7ff0_0000_0000_0000) where
       let d : half + 537 + 1270 ≡ half + 1807 = omega arith in
       let f : c ≡ (half + 537 - 52 - 1) * 2 ^ 52 + r = omega arith in
       ap (ofBits binary64) f
-      ∙ by-step lined-up 0 r (half + 537) (omega arith) (omega arith) (omega arith) (omega arith) 1 (lit< tt) (omega (arith, i)) (λ z. absurd (omega (arith, z))) n
+      ∙ by-step lined-up 0 r (half + 537) (omega arith) (omega arith) (omega arith) (omega arith)
+      1 (lit< tt) (omega (arith, i)) (λ z. absurd (omega (arith, z))) n
       ∙ ap (λ (x : ℕ). round binary64 false (stickMore lined-up 0 * 2 ^ x) (2 ^ deep)) d
       ∙ code-root (sizeAt binary64 b) digits (b / 2 ^ 52 + 52) (p .value) (p .full some) (p .under)
       ∙ sym (of-pattern b some B)
