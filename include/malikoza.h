@@ -42,7 +42,7 @@
 #include <string.h>
 
 /* CHANGELOG.md has what each version changes for a caller. */
-#define MALIKOZA_VERSION "0.3.1"
+#define MALIKOZA_VERSION "0.4.0"
 
 #ifdef __cplusplus
 extern "C" {
@@ -250,8 +250,8 @@ uint64_t malikoza_t_to_s_list(const uint8_t *s, size_t s_len, const uint8_t *a, 
 /* Where the knife is at each time of an even grid; NaN before the first time and past the last.
  *
  * The grid's times are t0 + i*dt for i from 0 to n-1, n being the whole part of (last time - t0)/dt, 0 if that is below 1.
- * with_final: 0 is no, anything else is yes. With the final asked for, the last station is added: where no sample was made,
- * if t0 is not above the last time; else if the last entry is less than the last station (a NaN isn't).
+ * with_final: 0 is no, anything else is yes. With the final asked for and t0 at or before the last time, the last station is
+ * added unless there is a last entry that is at or past it; a NaN entry counts as not there.
  *
  * Writes one double for each time of the grid and the final station where it is added; how many times were before, inside
  * and past (an added final is none); and the number of doubles written. The output must have room for n doubles, and for one

@@ -28,15 +28,26 @@ pub fn expected(case: &Case, slip: Slip) -> (Answer, Option<Way>) {
 }
 
 /// "The domain of those runs is every input not refused with 1, 10, 28, 29, 11 for too many stations, or 2 for a comparison tolerance."
-/// Nor does the original know a full walk (61), or a walk's start: it is called stage by stage.
-fn is_in_the_domain(case: &Case, number: u64) -> bool {
-    match number {
-        0 => case.entry != Entry::WalkStart,
+/// Nor does the original know a full walk (61), or a walk's start: it is called stage by stage. Nor is it asked where an answer is no longer its own.
+fn is_in_the_domain(case: &Case, answer: &Answer) -> bool {
+    match answer.number {
+        0 => case.entry != Entry::WalkStart && !has_left_the_domain(case, answer),
         1 | 10 | 28 | 29 | 61 => false,
         11 => case.lists[0].len() / 8 < 2,
         2 => !Request::of(case).refused_for_a_comparison_tolerance(),
         _ => true,
     }
+}
+
+/// 02, request 3: "inputs whose answer this changes leave the differential domain". The final is asked for, and the last entry before it is NaN: the original
+/// adds none after that.
+pub fn has_left_the_domain(case: &Case, answer: &Answer) -> bool {
+    if case.entry != Entry::TToSGrid || answer.number > 0 || !case.with_final() {
+        return false;
+    }
+    let [before, inside, past, _] = answer.lent;
+    let samples = (before + inside + past) as usize;
+    samples > 0 && f64::from_bits(answer.pattern_at(samples - 1)).is_nan()
 }
 
 /// What the original answers: its doubles, and for a recovery the count of certificates asked.
@@ -104,7 +115,7 @@ fn agrees(case: &Case, ours: &Answer, original: &Option<Original>) -> bool {
 
 /// Whether the original says of a case what an answer says; none outside the domain.
 pub fn original_agrees(case: &Case, answer: &Answer, slip: Slip) -> Option<bool> {
-    is_in_the_domain(case, answer.number).then(|| agrees(case, answer, &original(case, slip)))
+    is_in_the_domain(case, answer).then(|| agrees(case, answer, &original(case, slip)))
 }
 
 /// Which two sides differ.
@@ -112,6 +123,8 @@ pub fn original_agrees(case: &Case, answer: &Answer, slip: Slip) -> Option<bool>
 pub enum Difference {
     FromRules,
     FromOriginal,
+    /// An input has left the domain, and its answer is the original's.
+    FromDomain,
     InAnotherOrder,
 }
 
@@ -121,6 +134,7 @@ pub struct Compared {
     pub ours: Answer,
     pub way: Option<Way>,
     pub with_original: bool,
+    pub left_the_domain: bool,
     pub in_another_order: bool,
     pub difference: Option<Difference>,
 }
@@ -133,19 +147,22 @@ pub fn compared(case: &Case, slip: Slip) -> Compared {
 pub fn compared_apart(case: &Case, ruled: &Case, slip: Slip) -> Compared {
     let (wanted, way) = expected(ruled, slip);
     let ours = library::call(case);
-    let with_original = is_in_the_domain(ruled, wanted.number);
+    let with_original = is_in_the_domain(ruled, &wanted);
+    let left_the_domain = has_left_the_domain(ruled, &wanted);
     let turned = turned(case);
     let in_another_order = turned.is_some();
     let difference = if ours != wanted {
         Some(Difference::FromRules)
     } else if original_agrees(ruled, &ours, slip) == Some(false) {
         Some(Difference::FromOriginal)
+    } else if left_the_domain && agrees(ruled, &ours, &original(ruled, slip)) {
+        Some(Difference::FromDomain)
     } else if turned.is_some_and(|turned| library::call(&turned) != ours) {
         Some(Difference::InAnotherOrder)
     } else {
         None
     };
-    Compared { wanted, ours, way, with_original, in_another_order, difference }
+    Compared { wanted, ours, way, with_original, left_the_domain, in_another_order, difference }
 }
 
 /// Whether any two sides differ, for a leaf too.
@@ -161,10 +178,10 @@ pub fn sides(case: &Case, slip: Slip) -> String {
     if Entry::LEAVES.contains(&case.entry) {
         return leaves::difference(case, slip).unwrap_or_default();
     }
-    let Compared { wanted, ours, difference, with_original, .. } = compared(case, slip);
+    let Compared { wanted, ours, difference, with_original, left_the_domain, .. } = compared(case, slip);
     let mut lines = vec![format!("  library: {}", told(case, &ours)), format!("  rules: {}", told(case, &wanted))];
     lines.extend(unlike_places(case, &ours, &wanted));
-    if with_original {
+    if with_original || left_the_domain {
         lines.push(match original(case, slip) {
             None => "  original: refused".to_string(),
             Some(answer) => format!("  original: answered, {}", in_hex(&answer.doubles)),

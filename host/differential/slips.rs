@@ -12,7 +12,9 @@ pub enum Slip {
     FewerNeighbours,
     OpenEnd,
     FinalIsATime,
-    NanIsLess,
+    NanIsThere,
+    FinalTwice,
+    LateFinal,
     RoomWithoutFinal,
     PlainFma,
     PlainHypot,
@@ -24,7 +26,7 @@ pub enum Slip {
 }
 
 impl Slip {
-    pub const ALL: [(&'static str, Slip, &'static str); 18] = [
+    pub const ALL: [(&'static str, Slip, &'static str); 20] = [
         ("two-roundings", Slip::TwoRoundings, "the sampler multiplies and adds with two roundings"),
         ("first-residual", Slip::FirstResidual, "the certificate stops at the first residual that fits"),
         ("tolerant-bounds", Slip::TolerantBounds, "the current bounds are compared with tolerance"),
@@ -34,7 +36,9 @@ impl Slip {
         ("fewer-neighbours", Slip::FewerNeighbours, "three next-down doubles are tried, not four"),
         ("open-end", Slip::OpenEnd, "an interval's end time belongs to the next interval"),
         ("final-is-a-time", Slip::FinalIsATime, "an added final station counts as a time inside"),
-        ("nan-is-less", Slip::NanIsLess, "the final is added after an entry that is NaN"),
+        ("nan-is-there", Slip::NanIsThere, "the final is not added after an entry that is NaN"),
+        ("final-twice", Slip::FinalTwice, "the final is added after an entry at the last station"),
+        ("late-final", Slip::LateFinal, "the final is added though t0 is past the last time"),
         ("room-without-final", Slip::RoomWithoutFinal, "needed room leaves out a final that is asked for"),
         ("plain-fma", Slip::PlainFma, "the leaf fma multiplies and adds with two roundings"),
         ("plain-hypot", Slip::PlainHypot, "hypot is the root of a rounded sum of rounded squares"),

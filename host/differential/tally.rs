@@ -18,6 +18,8 @@ pub struct Tally {
     /// Calls in the domain where the original is asked, and lists of rows tried again in another order and number.
     with_original: u64,
     in_another_order: u64,
+    /// Finals after an entry that is NaN, by which an input has left the domain.
+    left_the_domain: u64,
     /// Walks, and steps after a refused one.
     pub walks: u64,
     pub tried_again: u64,
@@ -48,6 +50,7 @@ impl Tally {
         *self.numbers.entry((entry, number)).or_default() += 1;
         self.with_original += u64::from(compared.with_original);
         self.in_another_order += u64::from(compared.in_another_order);
+        self.left_the_domain += u64::from(compared.left_the_domain);
         if let Some(way) = compared.way {
             self.ways[usize::from(entry == Entry::WalkStep)][place(way)] += 1;
         }
@@ -68,6 +71,7 @@ impl Tally {
         add(&mut self.sampled, &other.sampled);
         self.with_original += other.with_original;
         self.in_another_order += other.in_another_order;
+        self.left_the_domain += other.left_the_domain;
         self.walks += other.walks;
         self.tried_again += other.tried_again;
         self.differ += other.differ;
@@ -104,6 +108,7 @@ impl Tally {
         println!("walks {}; steps tried again after a refusal {}", self.walks, self.tried_again);
         let [before, inside, past, finals] = self.sampled;
         println!("times before {before}, inside {inside}, past {past}; finals added {finals}");
+        println!("finals after a NaN, by 02's rule and not the original's {}", self.left_the_domain);
         println!(
             "calls beside the original {}; rows in another order and number {}",
             self.with_original, self.in_another_order

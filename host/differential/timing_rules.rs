@@ -173,13 +173,16 @@ fn t_to_s_grid(case: &Case, slip: Slip) -> Result<Answer, u64> {
     Ok(Answer::wrote(counts, &entries, case))
 }
 
-/// "if no sample was made, the last station is added when t0 ≤ last time; else it is added when the last entry is less than the last station. A NaN entry isn't
-/// less."
+/// 02, request 3: "with the final asked for and t0 at or before the last time, the last station is added unless the last entry is already at or past it; NaN
+/// counts as not there"
 fn final_is_due(profile: &Profile, entries: &[f64], t0: f64, slip: Slip) -> bool {
-    match entries.last() {
-        None => t0 <= profile.last_time(),
-        Some(entry) => *entry < profile.last_station() || slip == Slip::NanIsLess && entry.is_nan(),
-    }
+    let end = profile.last_station();
+    let is_there = match entries.last() {
+        None => false,
+        Some(entry) if entry.is_nan() => slip == Slip::NanIsThere,
+        Some(entry) => *entry > end || *entry == end && slip != Slip::FinalTwice,
+    };
+    (t0 <= profile.last_time() || slip == Slip::LateFinal) && !is_there
 }
 
 /// What a conversion must leave behind.

@@ -27,7 +27,7 @@ const LEAF_SHARE: usize = 200;
 const SHORT: usize = 600;
 const LONG: usize = 2000;
 /// What the program has room for.
-const MOST: usize = 1_572_864;
+const MOST: usize = 1_638_400;
 
 const HEAD: usize = 8 * 22;
 

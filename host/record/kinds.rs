@@ -1,6 +1,7 @@
 //! The kinds of which each has its share: refusal numbers, and ways of answering.
 
 use crate::case::{Answer, Case, Entry};
+use crate::judge::has_left_the_domain;
 use crate::recovery_rules::Way;
 use crate::walk_rules::Walk;
 
@@ -37,6 +38,7 @@ pub fn ways(entry: Entry) -> &'static [&'static str] {
         Entry::TToSGrid => &[
             "samples, no final asked",
             "samples and final",
+            "samples, final after NaN",
             "samples, final not due",
             "no samples, no final asked",
             "final alone",
@@ -72,6 +74,7 @@ pub fn kind(case: &Case, answer: &Answer, way: Option<Way>) -> String {
             if as_given { "patterns as given" } else { "a NaN made plain" }.to_string()
         }
         Entry::TToSList => times(before, inside, past).to_string(),
+        _ if has_left_the_domain(case, answer) => "samples, final after NaN".to_string(),
         _ => grid(case.with_final(), before + inside + past, written).to_string(),
     }
 }

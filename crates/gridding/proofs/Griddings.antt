@@ -1,11 +1,11 @@
 -- What passing every check of an even grid says, and what the grid owes to its outcome.
-use Prim.Native.Nat.{ℕ, zero, suc, _+_, _*_, _-_, _/_, _≤_, min}
+use Prim.Native.Nat.{ℕ, _+_, _*_, _/_, _≤_, min}
 use mathlib.Core.Path.{_≡_, refl, ap, _∙_}
 use mathlib.Core.Bool.{Bool, true, false, not, cond, _&&_}
 use mathlib.Core.List.{List}
 use native.Mathlib.Nat.{add-zero, le-refl, min-eq-left}
 use native.Mathlib.Omega.{arith}
-use borrow.Author.Tests.{leb-true, lt-ltb, le-ltb, ne-eqb}
+use borrow.Author.Tests.{leb-true, lt-ltb, le-ltb}
 use lib.Dec.{leb, ltb}
 use lib.ListN.{length}
 use lib.Ieee.{Float, le}
@@ -27,7 +27,8 @@ use Rattle.following.specs.declared.pass.Source.the-variants.{Even}
 use Rattle.sampling.specs.Samples.{timedNo}
 use Rattle.sampling.specs.declared.samples.Sampled.the-variants.{Done, Refused}
 use Rattle.sampling.proofs.Samplings.{timed}
-use Rattle.gridding.specs.Grid.{lastOf, gridSize, finalAdded, evenNo, gridNo, gridStation, gridEntry, gridEntries, gridCounts}
+use Rattle.strap_end.specs.Final.{finalAdded}
+use Rattle.gridding.specs.Grid.{lastOf, gridSize, evenNo, gridNo, gridStation, gridEntry, gridEntries, gridCounts}
 use Rattle.gridding.specs.Ending.{entryMore, Ended}
 
 pub sized : (t : List Float) (t0 dt : Float) → evenNo t t0 dt ≡ 0 → gridSize t t0 dt ≤ mostSamples
@@ -51,17 +52,15 @@ gridded s a t t0 dt final room h =
     let q = timed s a t (p .0) in
     (q .1, q .2, sized t t0 dt (u .0), leb-true _ _ (unless-none enough 29 (omega arith) (u .1)))
 
--- the rule for the final looks at the last entry
-final-last : (s t : List Float) (t0 : Float) (n : ℕ) (f : ℕ → Float) (v : Float) → v ≡ lastEntry f n → finalAdded s t t0 n v ≡ finalAdded s t t0 n (f (n - 1))
-unfolding finalAdded
-final-last s t t0 zero f v e = refl
-final-last s t t0 (suc n) f v e = ap (finalAdded s t t0 (suc n)) (rw (ne-eqb (suc n) 0 (λ z. omega (arith, z))) at e)
-
 -- room for the final is needed where it is asked for, added or not
-room : (final added : Bool) → cond (final && added) 1 0 ≤ cond final 1 0
-room false added = omega arith
-room true false = omega arith
-room true true = omega arith
+room : (final : Bool) (t0 time entry station : Float) → cond (finalAdded final t0 time entry station) 1 0 ≤ cond final 1 0
+unfolding finalAdded
+room false t0 time entry station = omega arith
+room true t0 time entry station = at-most (le t0 time && not (le station entry))
+  where
+    at-most : (b : Bool) → cond b 1 0 ≤ 1
+    at-most false = omega arith
+    at-most true = omega arith
 
 -- v after the first n entries, or nothing
 ended : (f : ℕ → Float) (n : ℕ) (v : Float) (b : Bool) (old : List ℕ) → n + cond b 1 0 ≤ length old / 8
@@ -97,15 +96,14 @@ module _ (s a t : List Float) (t0 dt : Float) (final : Bool) (x : List Float) (o
   unfolding countsOf
   few-written = let fits = gridded s a t t0 dt final (length old / 8) z in rw (all-passed .counts) (omega (arith, fits))
 
-  pub finished : (r : Counts) (new : List ℕ) → Ended (final && finalAdded s t t0 n (p .last)) n (lastOf s) (p .counts) mid r new
+  pub finished : (r : Counts) (new : List ℕ) → Ended (finalAdded final t0 (lastOf t) (p .last) (lastOf s)) n (lastOf s) (p .counts) mid r new
       → Outcome (Done (gridCounts s a t t0 dt final)) Refused (gridNo s a t t0 dt final (length old / 8)) (byteOf (gridEntry s a t t0 dt)) (8 * gridEntries s a t t0 dt final) old (Done r) new
   unfolding gridEntry gridEntries gridStation
   finished r new d =
       let f = gridStation s a t t0 dt in
       let q = all-passed in
-      let added = finalAdded s t t0 n (f (n - 1)) in
-      let l : finalAdded s t t0 n (p .last) ≡ added = final-last s t t0 n f (p .last) (q .last) in
+      let added = finalAdded final t0 (lastOf t) (lastEntry f n) (lastOf s) in
       let fits = gridded s a t t0 dt final (length old / 8) z in
-      let h : n + cond (final && added) 1 0 ≤ length old / 8 = omega (arith, room final added, fits) in
-      succeeds z (ap Done ((rw (l, q .counts) at (d .counts)) ∙ counted t (gridTime t0 dt) n (final && added) ∙ rw e refl))
-      ((rw (l, q .left) at (d .left)) ∙ ended f n (lastOf s) (final && added) old h ∙ rw e refl)
+      let h : n + cond added 1 0 ≤ length old / 8 = omega (arith, room final t0 (lastOf t) (lastEntry f n) (lastOf s), fits) in
+      succeeds z (ap Done ((rw (q .last, q .counts) at (d .counts)) ∙ counted t (gridTime t0 dt) n added ∙ rw e refl))
+      ((rw (q .last, q .left) at (d .left)) ∙ ended f n (lastOf s) added old h ∙ rw e refl)

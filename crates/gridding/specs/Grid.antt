@@ -2,9 +2,9 @@
 use Prim.Native.Nat.{ℕ, _+_, _*_, _-_, _/_}
 use mathlib.Core.List.{List}
 use mathlib.Core.Bool.{Bool, not, cond, _&&_}
-use lib.Dec.{leb, ltb, eqb}
+use lib.Dec.{leb, ltb}
 use lib.ListN.{length}
-use lib.Ieee.{Float, lt, le}
+use lib.Ieee.{Float, le}
 use lib.Ieee.Scale.{finite}
 use Rattle.number.specs.Doubles.{zero, _⊖_, _⊘_}
 use Rattle.number.specs.Leaves.{wholePart}
@@ -13,11 +13,13 @@ use Rattle.refusals.specs.Most.{mostSamples}
 use Rattle.refusals.specs.Refusals.{unless, _or_}
 use Rattle.refusals.specs.Outcome.{Outcome}
 use Rattle.following.specs.Places.{stationAt, gridTime, countsOf}
+use Rattle.following.specs.Following.{lastEntry}
 use Rattle.following.specs.declared.pass.Counts.{Counts}
 use Rattle.byte_lists.specs.Bytes.{inEights, doublesOf, byteOf}
 use Rattle.sampling.specs.Samples.{timedNo}
 use Rattle.sampling.specs.declared.samples.Sampled.{Sampled}
 use Rattle.sampling.specs.declared.samples.Sampled.the-variants.{Done, Refused}
+use Rattle.strap_end.specs.Final.{finalAdded}
 
 unfoldable pub lastOf : List Float → Float
 lastOf x = at x (length x - 1)
@@ -25,10 +27,6 @@ lastOf x = at x (length x - 1)
 -- the whole part of (last time - t0)/dt
 unfoldable pub gridSize : List Float → Float → Float → ℕ
 gridSize t t0 dt = wholePart ((lastOf t ⊖ t0) ⊘ dt)
-
--- the rule for the final: if no sample was made, the last station is added when t0 ≤ last time; else it is added when the last entry is less than it
-unfoldable pub finalAdded : List Float → List Float → Float → ℕ → Float → Bool
-finalAdded s t t0 n entry = cond (eqb n 0) (le t0 (lastOf t)) (lt entry (lastOf s))
 
 -- 16, 23, 24, 28
 unfoldable pub evenNo : List Float → Float → Float → ℕ
@@ -52,11 +50,11 @@ gridStation s a t t0 dt i = stationAt s a t (gridTime t0 dt i)
 unfoldable pub gridEntry : List Float → List Float → List Float → Float → Float → ℕ → Float
 gridEntry s a t t0 dt i = cond (ltb i (gridSize t t0 dt)) (gridStation s a t t0 dt i) (lastOf s)
 
--- how many are written
+-- how many are written: one more where the final is added
 unfoldable pub gridEntries : List Float → List Float → List Float → Float → Float → Bool → ℕ
 gridEntries s a t t0 dt final =
     let n = gridSize t t0 dt in
-    n + cond (final && finalAdded s t t0 n (gridStation s a t t0 dt (n - 1))) 1 0
+    n + cond (finalAdded final t0 (lastOf t) (lastEntry (gridStation s a t t0 dt) n) (lastOf s)) 1 0
 
 abbrev pub gridCounts : List Float → List Float → List Float → Float → Float → Bool → Counts
 gridCounts s a t t0 dt final = countsOf t (gridTime t0 dt) (gridSize t t0 dt) (gridEntries s a t t0 dt final)

@@ -10,6 +10,7 @@ use refusals::chain::unless;
 use refusals::most;
 use sampling::samples;
 use sampling::samples::Sampled;
+use strap_end::final_added;
 ghost use mathlib.Core.Path.{_≡_};
 ghost use mathlib.Core.Bool.{cond, not, _&&_};
 ghost use Prim.Native.Nat.{_+_, _/_, _%_, _<_, _≤_};
@@ -19,7 +20,8 @@ ghost use lib.Ieee.{le};
 ghost use Rattle.number.specs.Doubles.{zero};
 ghost use Rattle.refusals.specs.Most.{mostSamples};
 ghost use Rattle.byte_lists.specs.Bytes.{doublesOf};
-ghost use Rattle.gridding.specs.Grid.{lastOf, gridSize, finalAdded, evenNo, gridNo, ByteGridded};
+ghost use Rattle.strap_end.specs.Final.{finalAdded};
+ghost use Rattle.gridding.specs.Grid.{lastOf, gridSize, evenNo, gridNo, ByteGridded};
 ghost use Rattle.gridding.specs.Ending.{entryMore, Ended};
 
 fn last(x: &[u8]) -> f64
@@ -77,18 +79,6 @@ fn refusal(s: &[u8], a: &[u8], t: &[u8], t0: f64, dt: f64, end: bool, room: usiz
     }
 }
 
-// The rule for the final station, after n samples whose last entry is given.
-fn final_added(s: &[u8], t: &[u8], t0: f64, n: usize, entry: f64) -> bool
-    requires { ⌜ (0 < length (now s) / 8) × (0 < length (now t) / 8) ⌝ }
-    ensures { λ r. ⌜ r ≡ finalAdded (doublesOf (now (s .entry))) (doublesOf (now (t .entry))) t0 n entry ⌝ }
-{
-    if n == 0 {
-        t0 <= last(t)
-    } else {
-        entry < last(s)
-    }
-}
-
 fn entry_more(c: Counts) -> Counts
     requires { ⌜ c .written ≤ mostSamples ⌝ }
     ensures { λ r. ⌜ r ≡ entryMore c ⌝ }
@@ -113,15 +103,14 @@ fn finish(
     out: &mut [u8],
 ) -> Counts
     requires { ⌜ (0 < length (now s) / 8) × (0 < length (now t) / 8) × (found .counts .written ≤ mostSamples) ⌝ }
-    ensures { λ r. ⌜ Ended (end && finalAdded (doublesOf (now (s .entry))) (doublesOf (now (t .entry))) t0 n (found .last))
+    ensures { λ r. ⌜ Ended (finalAdded end t0 (lastOf (doublesOf (now (t .entry)))) (found .last) (lastOf (doublesOf (now (s .entry)))))
         n (lastOf (doublesOf (now (s .entry)))) (found .counts) (now (out .entry)) r (now (out .exit)) ⌝ }
 {
     let c = found.counts;
-    if end {
-        if final_added(s, t, t0, n, found.last) {
-            doubles::put(out, n, last(s));
-            return entry_more(c);
-        }
+    let station = last(s);
+    if final_added(end, t0, last(t), found.last, station) {
+        doubles::put(out, n, station);
+        return entry_more(c);
     }
     c
 }

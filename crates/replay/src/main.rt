@@ -10,10 +10,10 @@ ghost use mathlib.Core.Path.{_≡_};
 ghost use lib.ListN.{length};
 
 // A file beyond it breaks off within a case, which is told.
-fn room() -> [u8; 1_572_864]
-    ensures { λ r. ⌜ 1572864 ≡ length r ⌝ }
+fn room() -> [u8; 1_638_400]
+    ensures { λ r. ⌜ 1638400 ≡ length r ⌝ }
 {
-    [0; 1_572_864]
+    [0; 1_638_400]
 }
 
 fn read(fd: i32) {

@@ -24,7 +24,8 @@ use Rattle.pieces.specs.Pieces.{pieceOf, inverse2order, stationInside, pieceAt,
 use Rattle.following.specs.Places.{intervalOf, isBefore, isInside, isPast, stationAt, countsOf, gridTime}
 use Rattle.sampling.specs.Samples.{timedNo}
 use Rattle.sampling.specs.List.{samplesNo, listNo}
-use Rattle.gridding.specs.Grid.{lastOf, gridSize, finalAdded, evenNo, gridNo, gridStation, gridEntry, gridEntries}
+use Rattle.strap_end.specs.Final.{finalAdded}
+use Rattle.gridding.specs.Grid.{lastOf, gridSize, evenNo, gridNo, gridStation, gridEntry, gridEntries}
 use Rattle.starred.specs.Cases.{AllHold, starred}
 
 infixr 10 _also_

@@ -125,8 +125,8 @@ pub fn t_to_s_list(s: &[f64], a: &[f64], t: &[f64], samples: &[f64], out: &mut [
 /// Where the knife is at each time of an even grid; NaN before the first station's time and past the last's.
 ///
 /// The grid's times are t0 + i·dt for i from 0 to n-1, n being the whole part of (last time - t0)/dt, 0 if that is
-/// below 1. With the final asked for, the last station is added: where no sample was made, if t0 is not above the last
-/// time; else if the last entry is less than the last station (a NaN isn't).
+/// below 1. With the final asked for and t0 at or before the last time, the last station is added unless there is a last
+/// entry that is at or past it; a NaN entry counts as not there.
 ///
 /// Needs room for n entries, and for one more if the final is asked for, added or not.
 ///
@@ -136,6 +136,17 @@ pub fn t_to_s_list(s: &[f64], a: &[f64], t: &[f64], samples: &[f64], out: &mut [
 /// let counts = malikoza::t_to_s_grid(&s, &a, &t, 10.0, 0.5, true, &mut out)?;
 /// assert_eq!(out, [0.0, 0.25, 1.0, 2.0, 3.0]);
 /// assert_eq!(counts, malikoza::Counts { before: 0, inside: 4, past: 0, written: 5 });
+/// # Ok::<(), malikoza::Refusal>(())
+/// ```
+///
+/// A coarse preview from before the start has its end all the same:
+///
+/// ```
+/// let (s, a, t) = ([0.0, 1.0, 3.0], [0.0, 4.0, 4.0], [10.0, 11.0, 12.0]);
+/// let mut out = [0.0; 2];
+/// let counts = malikoza::t_to_s_grid(&s, &a, &t, 8.0, 3.0, true, &mut out)?;
+/// assert!(out[0].is_nan() && out[1] == 3.0);
+/// assert_eq!(counts, malikoza::Counts { before: 1, inside: 0, past: 0, written: 2 });
 /// # Ok::<(), malikoza::Refusal>(())
 /// ```
 ///

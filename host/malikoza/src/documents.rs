@@ -42,6 +42,23 @@ fn header_and_readme_have_the_same_names_numbers_and_sentences() {
     assert_eq!(header.matches("return \"refusal ").count(), Refusal::ALL.len());
 }
 
+/// Whether a document has a sentence, however its lines break and whether it begins with a capital or not.
+fn says(path: &str, sentence: &str) -> bool {
+    let document = text(path).to_lowercase();
+    let words = document.split_whitespace().filter(|word| !["*", "///"].contains(word));
+    words.collect::<Vec<_>>().join(" ").contains(&sentence.to_lowercase())
+}
+
+#[test]
+fn the_rule_for_the_final_is_told_in_the_same_words() {
+    const RULE: &str = "with the final asked for and t0 at or before the last time, the last station is added unless \
+                        there is a last entry that is at or past it; a NaN entry counts as not there.";
+    let comments = ["include/malikoza.h", "host/malikoza/src/conversions.rs"];
+    for path in comments.into_iter().chain(["README.md", "docs/RULES.md", "docs/STATEMENTS.md"]) {
+        assert!(says(path, RULE), "{path} has another rule for the final");
+    }
+}
+
 #[test]
 fn header_and_crate_have_the_same_limits() {
     let header = text("include/malikoza.h");

@@ -9,7 +9,7 @@ zeros : (n : ℕ) → n ≡ length {A = ℕ} (replicate n 0)
 zeros n = sym (length-replicate n 0)
 
 returns : tie.Need-returns
-returns c = zeros 1572864
+returns c = zeros 1638400
 
 pub room-spec : {M : Type 1} → statement M
 room-spec = tie.close (tie.spec returns)
