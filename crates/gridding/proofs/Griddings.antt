@@ -31,26 +31,43 @@ use Rattle.strap_end.specs.Final.{finalAdded}
 use Rattle.gridding.specs.Grid.{lastOf, gridSize, evenNo, gridNo, gridStation, gridEntry, gridEntries, gridCounts}
 use Rattle.gridding.specs.Ending.{entryMore, Ended}
 
-pub sized : (t : List Float) (t0 dt : Float) → evenNo t t0 dt ≡ 0 → gridSize t t0 dt ≤ mostSamples
+pub record Laid (t : List Float) (t0 dt : Float) : Type 0 where
+  pub start-finite : finite t0 ≡ true
+  pub step-finite : finite dt ≡ true
+  pub step-positive : not (le dt plus-zero) ≡ true
+  pub few : gridSize t t0 dt ≤ mostSamples
+
+laid : (t : List Float) (t0 dt : Float) → evenNo t t0 dt ≡ 0 → Laid t t0 dt
 unfolding evenNo
-sized t t0 dt h =
+laid t t0 dt h =
     let few = leb (gridSize t t0 dt) mostSamples in
     let many = unless few 28 in
     let still = unless (not (le dt plus-zero)) 24 or many in
     let p = or-none (unless (finite t0) 16) (unless (finite dt) 23 or still) h in
     let q = or-none (unless (finite dt) 23) still (p .1) in
     let u = or-none (unless (not (le dt plus-zero)) 24) many (q .1) in
-    leb-true _ _ (unless-none few 28 (omega arith) (u .1))
+    record {
+      start-finite = unless-none (finite t0) 16 (omega arith) (p .0);
+      step-finite = unless-none (finite dt) 23 (omega arith) (q .0);
+      step-positive = unless-none (not (le dt plus-zero)) 24 (omega arith) (u .0);
+      few = leb-true _ _ (unless-none few 28 (omega arith) (u .1));
+    }
 
-pub gridded : (s a t : List Float) (t0 dt : Float) (final : Bool) (room : ℕ) → gridNo s a t t0 dt final room ≡ 0
-    → (length t ≡ length s) × (2 ≤ length s) × (gridSize t t0 dt ≤ mostSamples) × (gridSize t t0 dt + cond final 1 0 ≤ room)
+pub unrefused : (s a t : List Float) (t0 dt : Float) (final : Bool) (room : ℕ) → gridNo s a t t0 dt final room ≡ 0
+    → (timedNo s a t ≡ 0) × Laid t t0 dt × (gridSize t t0 dt + cond final 1 0 ≤ room)
 unfolding gridNo
-gridded s a t t0 dt final room h =
+unrefused s a t t0 dt final room h =
     let enough = leb (gridSize t t0 dt + cond final 1 0) room in
     let p = or-none (timedNo s a t) (evenNo t t0 dt or unless enough 29) h in
     let u = or-none (evenNo t t0 dt) (unless enough 29) (p .1) in
+    (p .0, laid t t0 dt (u .0), leb-true _ _ (unless-none enough 29 (omega arith) (u .1)))
+
+pub gridded : (s a t : List Float) (t0 dt : Float) (final : Bool) (room : ℕ) → gridNo s a t t0 dt final room ≡ 0
+    → (length t ≡ length s) × (2 ≤ length s) × (gridSize t t0 dt ≤ mostSamples) × (gridSize t t0 dt + cond final 1 0 ≤ room)
+gridded s a t t0 dt final room h =
+    let p = unrefused s a t t0 dt final room h in
     let q = timed s a t (p .0) in
-    (q .1, q .2, sized t t0 dt (u .0), leb-true _ _ (unless-none enough 29 (omega arith) (u .1)))
+    (q .1, q .2, p .1 .few, p .2)
 
 -- room for the final is needed where it is asked for, added or not
 room : (final : Bool) (t0 time entry station : Float) → cond (finalAdded final t0 time entry station) 1 0 ≤ cond final 1 0

@@ -84,7 +84,7 @@ module _ (p n den : ℕ) (P : 0 < p) (D : 0 < den) where
   unit = close n (den * 2 ^ drop p n den) (mul-pos D (pow-pos (drop p n den)))
 
   -- where digits are dropped, the fraction has all the digits that are kept
-  full : 0 < drop p n den → 2 ^ (p - 1 + drop p n den) * den ≤ n
+  pub full : 0 < drop p n den → 2 ^ (p - 1 + drop p n den) * den ≤ n
   full K = le-div-iff-mul-le D .0 (size-reaches (n / den) (p - 1 + drop p n den) (all-in-use (size (n / den)) p P K))
     where
       all-in-use : (z p : ℕ) → 0 < p → 0 < z - p → p - 1 + (z - p) < z

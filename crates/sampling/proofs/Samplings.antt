@@ -1,7 +1,7 @@
 -- What passing the checks says: those of both modes, and those of a list.
 use Prim.Native.Nat.{ℕ, _*_, _/_, _≤_, min}
 use mathlib.Core.Path.{_≡_, ap, _∙_}
-use mathlib.Core.Bool.{cond}
+use mathlib.Core.Bool.{true, cond}
 use mathlib.Core.List.{List}
 use native.Mathlib.Nat.{min-eq-left}
 use native.Mathlib.Omega.{arith}
@@ -26,16 +26,18 @@ use Rattle.profile.specs.Profile.{profileNo, speedNo}
 use Rattle.profile.proofs.Profiles.{shaped}
 
 -- what a profile with its times has that passes its checks
-pub timed : (s a t : List Float) → timedNo s a t ≡ 0 → (length a ≡ length s) × (length t ≡ length s) × (2 ≤ length s)
+pub timed : (s a t : List Float) → timedNo s a t ≡ 0 → (length a ≡ length s) × (length t ≡ length s) × (2 ≤ length s) × (everyEntry finite t ≡ true)
 unfolding timedNo
 timed s a t h =
-    let later = unless (everyEntry finite t) 21 or unless (everyPair lt t) 22 in
+    let falls = unless (everyPair lt t) 22 in
+    let later = unless (everyEntry finite t) 21 or falls in
     let same = eqb (length t) (length s) in
     let p = or-none (profileNo s a) (speedNo a or unless same 20 or later) h in
     let q = or-none (speedNo a) (unless same 20 or later) (p .1) in
     let u = or-none (unless same 20) later (q .1) in
+    let v = or-none (unless (everyEntry finite t) 21) falls (u .1) in
     let w = shaped s a (p .0) in
-    (w .same, eqb-true _ _ (unless-none same 20 (omega arith) (u .0)), w .low)
+    (w .same, eqb-true _ _ (unless-none same 20 (omega arith) (u .0)), w .low, unless-none (everyEntry finite t) 21 (omega arith) (v .0))
 
 sampled : (x : List Float) (room : ℕ) → samplesNo x room ≡ 0 → length x ≤ room
 unfolding samplesNo
