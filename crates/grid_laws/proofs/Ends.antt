@@ -9,7 +9,7 @@ use native.Mathlib.Omega.{arith}
 use borrow.Author.Tests.{lt-ltb, ne-eqb}
 use lib.Dec.{T, eqb}
 use lib.ListN.{length}
-use lib.Ieee.{Float, nan, inf, fin, binary64, le, lt, isNan, fits}
+use lib.Ieee.{Float, nan, inf, fin, le, lt, isNan}
 use lib.Ieee.Bits.{is-true}
 use lib.Ieee.Scale.{finite}
 use Rattle.number.specs.Doubles.{zero as plus-zero}
@@ -20,13 +20,14 @@ use Rattle.loops.proofs.Counting.{first-before, entry-at}
 use Rattle.profile.proofs.Profiles.{both-finite}
 use Rattle.following.specs.Places.{intervalOf, isBefore, isInside, isPast, gridTime}
 use Rattle.strap_end.specs.Final.{finalAdded}
+use Rattle.refusals.specs.Most.{mostSamples}
 use Rattle.refusals.proofs.Chains.{or-none}
 use Rattle.profile.specs.Profile.{profileNo}
 use Rattle.sampling.specs.Samples.{timedNo}
 use Rattle.sampling.proofs.Samplings.{timed}
 use Rattle.gridding.specs.Grid.{lastOf, gridSize, gridNo, gridStation}
-use Rattle.gridding.proofs.Griddings.{Laid, unrefused}
-use Rattle.grid_laws.specs.GridLaws.{NonePast, finalBy01, OnlyAfterNaN}
+use Rattle.gridding.proofs.Griddings.{unrefused}
+use Rattle.grid_laws.specs.GridLaws.{NonePast, AddedAsBy01, OnlyAfterNaN}
 use Rattle.grid_laws.proofs.Within.{not-late, not-over}
 
 -- ---- what a test's answer says
@@ -78,44 +79,46 @@ stations-finite : (s a t : List Float) → timedNo s a t ≡ 0 → everyEntry fi
 unfolding timedNo
 stations-finite s a t h = both-finite s a (or-none (profileNo s a) _ h .0) .0
 
-module _ (s a t : List Float) (t0 dt : Float) (asked : Bool) (room : ℕ) (h : gridNo s a t t0 dt asked room ≡ 0) where
-  passed : timedNo s a t ≡ 0
-  passed = unrefused s a t t0 dt asked room h .0
-
-  grid : Laid t t0 dt
-  grid = unrefused s a t t0 dt asked room h .1
-
-  lengths : (2 ≤ length s) × (2 ≤ length t)
-  lengths = let q = timed s a t passed in (q .2, omega (arith, q .1, q .2))
-
-  pub station-finite : T (finite (lastOf s))
-  station-finite = last-finite s (lengths .0) (stations-finite s a t passed)
-
-  time-finite : T (finite (lastOf t))
-  time-finite = last-finite t (lengths .1) (timed s a t passed .3)
-
-  start-finite : T (finite t0)
-  start-finite = holds (grid .start-finite)
-
+-- what its tests say of the last station, the last time, t0 and dt
+record Facts (s t : List Float) (t0 dt : Float) : Type 0 where
+  long : 2 ≤ length t
+  station : T (finite (lastOf s))
+  time : T (finite (lastOf t))
+  start : T (finite t0)
+  step : T (finite dt)
   forward : T (le dt plus-zero) → ⊥
-  forward = not-true (le dt plus-zero) (grid .step-positive)
+  few : gridSize t t0 dt ≤ mostSamples
 
-  pub in-time : T (fits binary64 (lastOf t)) → T (fits binary64 dt) → (i : ℕ) → i < gridSize t t0 dt → isPast t (gridTime t0 dt i) ≡ false
-  unfolding gridSize
-  in-time L F i l =
-      let x = gridTime t0 dt i in
-      found-not-past t x
-      (interval-found t x (lengths .1) (not-late (lastOf t) t0 dt time-finite start-finite (holds (grid .step-finite)) forward L F (grid .few) i l))
-
-  pub start-in-time : 0 < gridSize t t0 dt → le t0 (lastOf t) ≡ true
-  unfolding gridSize
-  start-in-time l = elim (lt-or-le (lastOf t) t0 (finite-number (lastOf t) time-finite) (finite-number t0 start-finite)) [
-    | inl o ↦ absurd (not-over (lastOf t) t0 dt time-finite start-finite (holds (grid .step-finite)) forward (grid .few) l (lt-le (lastOf t) t0 o))
-    | inr k ↦ is-true (le t0 (lastOf t)) k
-  ]
+facts : (s a t : List Float) (t0 dt : Float) (asked : Bool) (room : ℕ) → gridNo s a t t0 dt asked room ≡ 0 → Facts s t t0 dt
+facts s a t t0 dt asked room h =
+    let p = unrefused s a t t0 dt asked room h in
+    let q = timed s a t (p .0) in
+    let g = p .1 in
+    let l : 2 ≤ length t = omega (arith, q .1, q .2) in
+    record {
+      long = l;
+      station = last-finite s (q .2) (stations-finite s a t (p .0));
+      time = last-finite t l (q .3);
+      start = holds (g .start-finite);
+      step = holds (g .step-finite);
+      forward = not-true (le dt plus-zero) (g .step-positive);
+      few = g .few;
+    }
 
 pub none-past : NonePast
-none-past = in-time
+unfolding gridSize
+none-past s a t t0 dt asked room h L F i l =
+    let g = facts s a t t0 dt asked room h in
+    let x = gridTime t0 dt i in
+    found-not-past t x (interval-found t x (g .long) (not-late (lastOf t) t0 dt (g .time) (g .start) (g .step) (g .forward) L F (g .few) i l))
+
+-- a sample is made only where t0 is not past the last time
+begun : (s t : List Float) (t0 dt : Float) → Facts s t t0 dt → 0 < gridSize t t0 dt → le t0 (lastOf t) ≡ true
+unfolding gridSize
+begun s t t0 dt g l = elim (lt-or-le (lastOf t) t0 (finite-number (lastOf t) (g .time)) (finite-number t0 (g .start))) [
+  | inl o ↦ absurd (not-over (lastOf t) t0 dt (g .time) (g .start) (g .step) (g .forward) (g .few) l (lt-le (lastOf t) t0 o))
+  | inr k ↦ is-true (le t0 (lastOf t)) k
+]
 
 -- ---- the end
 
@@ -139,8 +142,7 @@ not-there (inf s) station S = ordered (inf s) station tt S
 not-there (fin s m e) station S = ordered (fin s m e) station tt S
 
 rules : (asked : Bool) (n : ℕ) (t0 time v station : Float) → T (number station) → (0 < n → le t0 time ≡ true)
-    → let entry = cond (eqb n 0) nan v in
-    finalAdded asked t0 time entry station ≡ asked && (finalBy01 n t0 time entry station || (not (eqb n 0) && isNan entry))
+    → AddedAsBy01 asked n t0 time (cond (eqb n 0) nan v) station
 unfolding finalAdded
 rules asked zero t0 time v station S h = ap (λ (b : Bool). asked && b) (rw (nothing-to-nan station) (go (le t0 time)))
   where
@@ -151,5 +153,6 @@ rules asked (suc n) t0 time v station S h = rw (ne-eqb (suc n) 0 (λ z. omega (a
 
 pub only-after-nan : OnlyAfterNaN
 only-after-nan s a t t0 dt asked room h =
-    rules asked (gridSize t t0 dt) t0 (lastOf t) (gridStation s a t t0 dt (gridSize t t0 dt - 1)) (lastOf s)
-    (finite-number (lastOf s) (station-finite s a t t0 dt asked room h)) (start-in-time s a t t0 dt asked room h)
+    let g = facts s a t t0 dt asked room h in
+    let n = gridSize t t0 dt in
+    rules asked n t0 (lastOf t) (gridStation s a t t0 dt (n - 1)) (lastOf s) (finite-number (lastOf s) (g .station)) (begun s t t0 dt g)

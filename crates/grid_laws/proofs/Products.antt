@@ -35,12 +35,12 @@ half-over p n den m P D h g =
     omega (arith, c, s)
 
 -- the product by what is i is one rounding of i times the double
-times : (f : Format) (x : Float) (i m : ℕ) (e : ℤ) → HasValue x false i 1 → mul f x (fin false m e) ≡ round f false (i * (m * up e)) (down e)
+by-whole : (f : Format) (x : Float) (i m : ℕ) (e : ℤ) → HasValue x false i 1 → mul f x (fin false m e) ≡ round f false (i * (m * up e)) (down e)
 unfolding mul
-times f nan i m e v = absurd v
-times f (inf s) i m e v = absurd v
-times f (fin true a b) i m e v = absurd (true≢false (v .0))
-times f (fin false a b) i m e v =
+by-whole f nan i m e v = absurd v
+by-whole f (inf s) i m e v = absurd v
+by-whole f (fin true a b) i m e v = absurd (true≢false (v .0))
+by-whole f (fin false a b) i m e v =
     round-same f false (a * up b * (m * up e)) (down b * down e) (i * (m * up e)) (down e) (mul-pos (down-pos b) (down-pos e)) (down-pos e)
     (omega (arith, ap (λ (z : ℕ). z * (m * up e * down e)) (v .1)))
 
@@ -89,7 +89,7 @@ module _ (f : Format) (i m : ℕ) (e : ℤ) (few : i < 2 ^ (prec f - 1)) (M : 0 
       (omega (arith, ap (λ (z : ℕ). (2 * i + 1) * z) (half-pow (low f) l)))
 
   pub product : mul f (ofInt f (pos i)) (fin false m e) ≡ round f false (i * (m * up e)) (down e)
-  product = times f (ofInt f (pos i)) i m e whole
+  product = by-whole f (ofInt f (pos i)) i m e whole
 
   -- at most i + 1/2 of the double
   abbrev pub Near : Float → Type 0

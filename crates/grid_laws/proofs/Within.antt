@@ -48,36 +48,36 @@ module _ (f : Format) (last t0 : Float) (i m : ℕ) (e : ℤ) (few : i < 2 ^ (pr
   abbrev steps : Float
   steps = round f false (i * (m * up e)) (down e)
 
-  abbrev left : Float
-  left = sub f last t0
+  abbrev remaining : Float
+  remaining = sub f last t0
 
-  left-rounds : Rounds f left (plusPart last * den t0 + minusPart t0 * den last) (minusPart last * den t0 + plusPart t0 * den last) (den last * den t0)
+  remaining-rounds : Rounds f remaining (plusPart last * den t0 + minusPart t0 * den last) (minusPart last * den t0 + plusPart t0 * den last) (den last * den t0)
   unfolding sub
-  left-rounds = let n = neg-parts t0 in rw (n .0, n .1, n .2) at (add-rounds f last (neg t0) L (neg-finite t0 Z))
+  remaining-rounds = let n = neg-parts t0 in rw (n .0, n .1, n .2) at (add-rounds f last (neg t0) L (neg-finite t0 Z))
 
-  -- where i steps lead past the last time, i + 1/2 of them are no less than what is left
-  by-finite : T (finite steps) → T (finite left) → T (lt last (add f t0 steps)) → Near f i m e few M left
+  -- where i steps lead past the last time, i + 1/2 of them are no less than what remains
+  by-finite : T (finite steps) → T (finite remaining) → T (lt last (add f t0 steps)) → Near f i m e few M remaining
   by-finite S D h =
       let past =
       rounds-lt f last (add f t0 steps) _ _ (den last) _ _ (den t0 * den steps) (den-pos last) (mul-pos (den-pos t0) (den-pos steps))
       (own-rounds f last F L) (add-rounds f t0 steps Z S) h in
-      let below : T (le left steps) =
-      rounds-mono f left steps _ _ (den last * den t0) _ _ (den steps) (mul-pos (den-pos last) (den-pos t0)) (den-pos steps) left-rounds
+      let below : T (le remaining steps) =
+      rounds-mono f remaining steps _ _ (den last * den t0) _ _ (den steps) (mul-pos (den-pos last) (den-pos t0)) (den-pos steps) remaining-rounds
       (own-rounds f steps (round-fits f false (i * (m * up e)) (down e)) S) (omega (arith, past)) in
-      at-most-trans _ _ (den left) _ _ (den steps) _ _ (2 * down e) (den-pos steps) (le→AtMost left steps D S below) (product-near f i m e few M E S)
+      at-most-trans _ _ (den remaining) _ _ (den steps) _ _ (2 * down e) (den-pos steps) (le→AtMost remaining steps D S below) (product-near f i m e few M E S)
 
-  by-infinite : T (not (finite steps)) → T (finite left) → Near f i m e few M left
+  by-infinite : T (not (finite steps)) → T (finite remaining) → Near f i m e few M remaining
   by-infinite S D =
       let less =
-      rounds-lt f left steps _ _ (den left) (i * (m * up e)) 0 (down e) (den-pos left) (down-pos e)
-      (own-rounds f left (sub-fits f last t0) D) (inl (omega arith, ap (λ (n : ℕ). round f false n (down e)) (omega arith)))
-      (beyond left steps D (round-signed f false (i * (m * up e)) (down e)) S) in
+      rounds-lt f remaining steps _ _ (den remaining) (i * (m * up e)) 0 (down e) (den-pos remaining) (down-pos e)
+      (own-rounds f remaining (sub-fits f last t0) D) (inl (omega arith, ap (λ (n : ℕ). round f false n (down e)) (omega arith)))
+      (beyond remaining steps D (round-signed f false (i * (m * up e)) (down e)) S) in
       omega (arith, less)
 
-  near : T (finite left) → T (lt last (add f t0 steps)) → Near f i m e few M left
+  near : T (finite remaining) → T (lt last (add f t0 steps)) → Near f i m e few M remaining
   near D h = go (finite steps) (λ t. t) (λ t. t)
     where
-      go : (b : Bool) → (T b → T (finite steps)) → (T (not b) → T (not (finite steps))) → Near f i m e few M left
+      go : (b : Bool) → (T b → T (finite steps)) → (T (not b) → T (not (finite steps))) → Near f i m e few M remaining
       go true S N = by-finite (S tt) D h
       go false S N = by-infinite (N tt) D
 
@@ -90,7 +90,7 @@ endless f w (inf true) m e X h = inl refl
 endless f w (inf false) m e X h = inr refl
 endless f w (fin s k d) m e X h = absurd h
 
--- a time of which at most i + 1/2 steps are left has no sample i
+-- a time of which at most i + 1/2 steps remain has no sample i
 no-sample : (x : Float) (i m : ℕ) (e : ℤ) (few : i < 2 ^ (prec binary64 - 1)) (M : 0 < m) → T (number x) → (T (finite x) → Near binary64 i m e few M x)
     → wholePart (x ⊘ fin false m e) ≤ mostSamples → i < wholePart (x ⊘ fin false m e) → ⊥
 no-sample x i m e few M X near n l = go (finite x) (λ t. t) (λ t. t)
@@ -119,28 +119,29 @@ by-step P g (fin false zero e) S A = absurd (A (AtMost→le (fin false zero e) n
 by-step P g (fin false (suc m) e) S A = g m e
 
 module _ (last t0 dt : Float) (L : T (finite last)) (Z : T (finite t0)) (S : T (finite dt)) (A : T (le dt plus-zero) → ⊥) where
-  abbrev size : Float → ℕ
-  size dt = wholePart ((last ⊖ t0) ⊘ dt)
+  abbrev wholeSteps : Float → ℕ
+  wholeSteps dt = wholePart ((last ⊖ t0) ⊘ dt)
 
-  left-number : T (number (last ⊖ t0))
-  left-number = sub-number binary64 last t0 (finite-number last L) Z
+  remaining-number : T (number (last ⊖ t0))
+  remaining-number = sub-number binary64 last t0 (finite-number last L) Z
 
-  pub not-late : T (fits binary64 last) → T (fits binary64 dt) → size dt ≤ mostSamples → (i : ℕ) → i < size dt → T (lt last (gridTime t0 dt i)) → ⊥
+  pub not-late : T (fits binary64 last) → T (fits binary64 dt) → wholeSteps dt ≤ mostSamples → (i : ℕ) → i < wholeSteps dt → T (lt last (gridTime t0 dt i)) → ⊥
   unfolding gridTime
   not-late F G n i l h =
-      by-step (λ dt. T (fits binary64 dt) → size dt ≤ mostSamples → i < size dt → T (lt last (gridTime t0 dt i)) → ⊥) (λ m e G n l h.
+      by-step (λ dt. T (fits binary64 dt) → wholeSteps dt ≤ mostSamples → i < wholeSteps dt → T (lt last (gridTime t0 dt i)) → ⊥) (λ m e G n l h.
       let few : i < 2 ^ 52 = omega (arith, l, n) in
-      no-sample (last ⊖ t0) i (suc m) e few (zero-lt-suc m) left-number
+      no-sample (last ⊖ t0) i (suc m) e few (zero-lt-suc m) remaining-number
       (λ D. near binary64 last t0 i (suc m) e few (zero-lt-suc m) (step-fits binary64 m e G) L F Z D (rw (product binary64 i (suc m) e few (zero-lt-suc m)) at h)) n l)
       dt S A G n l h
 
   -- so there is a sample only where t0 is not past the last time
-  pub not-over : size dt ≤ mostSamples → 0 < size dt → T (le last t0) → ⊥
+  pub not-over : wholeSteps dt ≤ mostSamples → 0 < wholeSteps dt → T (le last t0) → ⊥
   not-over n l h =
-      let left = last ⊖ t0 in
-      let none : T (le left nought) =
-      le-transitive left (t0 ⊖ t0) nought (sub-keeps binary64 t0 last t0 left-number (sub-number binary64 t0 t0 (finite-number t0 Z) Z) h)
+      let remaining = last ⊖ t0 in
+      let none : T (le remaining nought) =
+      le-transitive remaining (t0 ⊖ t0) nought (sub-keeps binary64 t0 last t0 remaining-number (sub-number binary64 t0 t0 (finite-number t0 Z) Z) h)
       (eq-le (t0 ⊖ t0) nought (subst T (sym (finite-test binary64 t0)) Z)) in
-      by-step (λ dt. size dt ≤ mostSamples → 0 < size dt → ⊥) (λ m e n l.
-      no-sample left 0 (suc m) e (pow-pos 52) (zero-lt-suc m) left-number (λ D. omega (arith, mul-le-mul-right (2 * down e) (le→AtMost left nought D tt none))) n l)
+      by-step (λ dt. wholeSteps dt ≤ mostSamples → 0 < wholeSteps dt → ⊥) (λ m e n l.
+      no-sample remaining 0 (suc m) e (pow-pos 52) (zero-lt-suc m) remaining-number
+      (λ D. omega (arith, mul-le-mul-right (2 * down e) (le→AtMost remaining nought D tt none))) n l)
       dt S A n l

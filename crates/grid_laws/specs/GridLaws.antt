@@ -20,8 +20,11 @@ abbrev pub finalBy01 : ℕ → Float → Float → Float → Float → Bool
 finalBy01 n t0 time entry station = cond (eqb n 0) (le t0 time) (lt entry station)
 
 -- by 02's rule a final that is asked for is added where it was by 01's, and after a sample that is NaN
+abbrev pub AddedAsBy01 : Bool → ℕ → Float → Float → Float → Float → Type 0
+AddedAsBy01 asked n t0 time entry station =
+    finalAdded asked t0 time entry station ≡ asked && (finalBy01 n t0 time entry station || (not (eqb n 0) && isNan entry))
+
 abbrev pub OnlyAfterNaN : Type 0
 OnlyAfterNaN = (s a t : List Float) (t0 dt : Float) (asked : Bool) (room : ℕ) → gridNo s a t t0 dt asked room ≡ 0
     → let n = gridSize t t0 dt in
-    let entry = lastEntry (gridStation s a t t0 dt) n in
-    finalAdded asked t0 (lastOf t) entry (lastOf s) ≡ asked && (finalBy01 n t0 (lastOf t) entry (lastOf s) || (not (eqb n 0) && isNan entry))
+    AddedAsBy01 asked n t0 (lastOf t) (lastEntry (gridStation s a t t0 dt) n) (lastOf s)

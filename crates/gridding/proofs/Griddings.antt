@@ -31,6 +31,7 @@ use Rattle.strap_end.specs.Final.{finalAdded}
 use Rattle.gridding.specs.Grid.{lastOf, gridSize, evenNo, gridNo, gridStation, gridEntry, gridEntries, gridCounts}
 use Rattle.gridding.specs.Ending.{entryMore, Ended}
 
+-- 16, 23, 24 and 28 are not given
 pub record Laid (t : List Float) (t0 dt : Float) : Type 0 where
   pub start-finite : finite t0 ≡ true
   pub step-finite : finite dt ≡ true
