@@ -4,7 +4,7 @@ use mathlib.Core.Path.{◌≡◌, sym, ap, ◌∙◌}
 use mathlib.Core.List.{List}
 use native.Mathlib.Omega.{arith}
 use lib.ListN.{length, get_or-eq_default}
-use lib.Ieee.{Float, nan, binary64, of_bits}
+use lib.Ieee.{nan, binary64, of_bits}
 use borrow.Author.Tests.{lt-ltb}
 use Rattle.loops.specs.Upto.{at}
 use Rattle.loops.proofs.Filling.{length_table, table_at}

@@ -16,7 +16,7 @@ use rows::reading::Reading;
 use rows::{judging, reading};
 
 // The worst figures over the rows where the speed passes.
-#[derive(Drop)]
+#[derive(Clone, Copy)]
 pub enum Certificate {
     Passed {
         worst_normalized: f64,

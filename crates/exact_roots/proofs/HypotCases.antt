@@ -1,4 +1,4 @@
--- What `hypotOf` is where a part is infinite or a NaN, or both are zero; and that neither the order nor the signs count.
+-- What `hypot_of` is where a part is infinite or a NaN, or both are zero; and that neither the order nor the signs count.
 use mathlib.Core.Path.{◌≡◌, refl, sym, ap, ap₂, ◌∙◌}
 use Prim.Native.Nat.{ℕ, zero, suc, ◌*◌, ◌%◌, ◌^◌, ◌≤◌, ◌<◌}
 use native.Mathlib.Nat.{add_comm}

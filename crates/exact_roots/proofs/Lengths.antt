@@ -1,4 +1,4 @@
--- What `hypotOf` is of two finite patterns without a sign, the larger one first: the code of `finite_length`.
+-- What `hypot_of` is of two finite patterns without a sign, the larger one first: the code of `finite_length`.
 use mathlib.Core.Path.{◌≡◌, sym, ap, ap₂, ◌∙◌, subst}
 use Prim.Native.Nat.{ℕ, suc, ◌+◌, ◌-◌, ◌*◌, ◌/◌, ◌%◌, ◌^◌, ◌≤◌, ◌<◌}
 use native.Mathlib.Nat.{lt_of_le_of_lt, mul-pos, mul-le-mul, mul-lt-mul_of_pos_right, mod-lt, div-add-mod', pow-succ'}

@@ -1,4 +1,4 @@
--- The theorems: `sqrtOf` and `hypotOf` are nearest in the sense of nearness' specs/Nearness, in every format, and no other value is.
+-- The theorems: `sqrt_of` and `hypot_of` are nearest in the sense of nearness' specs/Nearness, in every format, and no other value is.
 use mathlib.Core.Path.{◌≡◌, ap₂, subst⁻¹}
 use mathlib.Core.Logic.{⊎_elim}
 use Prim.Native.Nat.{ℕ, zero, suc, ◌+◌, ◌*◌, ◌^◌, ◌≤◌, ◌<◌}

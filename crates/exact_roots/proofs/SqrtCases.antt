@@ -1,4 +1,4 @@
--- What `sqrtOf` is on each side of zero, and of a finite pattern above zero.
+-- What `sqrt_of` is on each side of zero, and of a finite pattern above zero.
 use mathlib.Core.Path.{◌≡◌, refl, sym, ap, ◌∙◌, subst}
 use mathlib.Core.Logic.{⊎_elim}
 use Prim.Native.Nat.{ℕ, zero, suc, ◌*◌, ◌^◌, ◌≤◌, ◌<◌}

@@ -1,6 +1,6 @@
 -- Laws of the pass of t to s: the interval that is carried from a time to the next, and the counts of one time more.
-use Rattle.std.proofs.Common.{◌≡◌, ℕ, ◌+◌, ◌-◌, ◌^◌, ◌<◌, ◌≤◌, Bool, true, false, not, ◌&&◌, T, ltb, List, length, sym, refl, ap, ◌∙◌, ⊎_elim, add-zero, eq-or-lt_of_le, arith, ltb-false, ltb-true, le-ltb, lt-ltb, ne_eqb}
-use borrow.Author.Tests.{not_false, not_true}
+use Rattle.std.proofs.Common.{◌≡◌, ℕ, ◌+◌, ◌-◌, ◌^◌, ◌<◌, ◌≤◌, Bool, true, false, not, T, ltb, List, length, sym, refl, ap, ◌∙◌, ⊎_elim, add-zero, eq-or-lt_of_le, arith, ltb-false, ltb-true, le-ltb, lt-ltb, ne_eqb}
+use borrow.Author.Tests.{not-false, not-true}
 use lib.Ieee.{Float, lt, le}
 use lib.Ieee.Bits.{is_true}
 use Rattle.number.proofs.Order.{holds, fails, lt_le_transitive, le_lt_transitive}
@@ -22,7 +22,7 @@ interval_fits t x k n e h = omega (arith, interval_le t x)
 -- every interval before that of x ends below x
 pub ends_below : (t : List Float) (x : Float) (i : ℕ) → i < interval_of t x → lt (at t (i + 1)) x ≡ true
 unfolding interval_of
-ends_below t x i h = not_false _ (first_before (λ k. not (lt (at t (k + 1)) x)) (length t - 1) i h)
+ends_below t x i h = not-false _ (first_before (λ k. not (lt (at t (k + 1)) x)) (length t - 1) i h)
 
 pub inside_within : (t : List Float) (x : Float) → is_inside t x ≡ true → interval_of t x < length t - 1
 unfolding is_inside
@@ -48,7 +48,7 @@ station_held s a t w x k h i = rw (h.held, i, ← k)
 
 pub inside_not_before : (t : List Float) (x : Float) → is_inside t x ≡ true → is_before t x ≡ false
 unfolding is_inside
-inside_not_before t x h = not_true (is_before t x) (and_left (not (is_before t x)) (ltb (interval_of t x) (length t - 1)) h)
+inside_not_before t x h = not-true (is_before t x) (and_left (not (is_before t x)) (ltb (interval_of t x) (length t - 1)) h)
 
 inside_not_past : (t : List Float) (x : Float) → is_inside t x ≡ true → is_past t x ≡ false
 unfolding is_past

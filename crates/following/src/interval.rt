@@ -12,7 +12,7 @@ use pieces::pair;
 use pieces::pair::Piece;
 
 // Where a pass over the times stands: the last time, its interval, the time at that interval's end and its piece. Past the last time both are NaN's.
-#[derive(Drop)]
+#[derive(Clone, Copy)]
 pub(crate) struct Cursor {
     pub time: f64,
     pub interval: usize,

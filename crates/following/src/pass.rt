@@ -14,7 +14,7 @@ use pieces::pair;
 use refusals::most;
 
 // The times before, inside and past, and the entries written.
-#[derive(Drop)]
+#[derive(Clone, Copy)]
 pub struct Counts {
     pub before: usize,
     pub inside: usize,
@@ -23,14 +23,14 @@ pub struct Counts {
 }
 
 // What a pass finds: the counts, and the last entry, NaN where there is none.
-#[derive(Drop)]
+#[derive(Clone, Copy)]
 pub struct Passage {
     pub counts: Counts,
     pub last: f64,
 }
 
 // Where the times come from: a list, or t0 and dt of an even grid.
-#[derive(Drop)]
+#[derive(Clone, Copy)]
 pub enum Source {
     Listed,
     Even(f64, f64),
@@ -141,7 +141,7 @@ fn stays(w: Cursor, x: f64) -> bool
 }
 
 // How far the times stay, and the last entry before the next.
-#[derive(Drop)]
+#[derive(Clone, Copy)]
 struct Stretch {
     next: usize,
     last: f64,

@@ -1,4 +1,4 @@
--- The theorem on `fmaOf`, over any format: of finite values it is the value nearest to the exact sum of the product and the addend, with the sign of that sum,
+-- The theorem on `fma_of`, over any format: of finite values it is the value nearest to the exact sum of the product and the addend, with the sign of that sum,
 -- or IEEE 754's where the sum is exactly zero; and no other value is. Assumes nothing.
 use mathlib.Core.Path.{◌≡◌, sym, ◌∙◌, subst, subst⁻¹}
 use Prim.Native.Nat.{ℕ, ◌*◌, ◌^◌, ◌<◌}

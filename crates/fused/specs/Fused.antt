@@ -1,4 +1,4 @@
--- What is promised of the fused multiply-add. 01: "nearest to xy + z, one rounding". What it is, `fmaOf`, is said in crate whole_fma.
+-- What is promised of the fused multiply-add. 01: "nearest to xy + z, one rounding". What it is, `fma_of`, is said in crate whole_fma.
 use Rattle.std.specs.Prelude.{◌≡◌, ℕ, ◌*◌, ◌^◌, Bool, T, Float}
 use Rattle.std.specs.Float.{Format}
 use Rattle.std.specs.Float.Ieee.{low, unlike}

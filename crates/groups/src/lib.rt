@@ -1,11 +1,13 @@
 // Whole numbers in groups of seven bits, low group first, as cut files hold them. Document 02, request 4, decides.
+#![tactic(auto)]
+
 ghost use Rattle.std.specs.Prelude.{◌≡◌, true, ◌||◌, ◌-◌, ◌≤◌, ◌<◌, ◌^◌, min, ltb, leb, length};
 ghost use Rattle.loops.specs.Upto.{first};
 ghost use Rattle.groups.specs.Groups.{is_last, value_of, shortest, room_at, ended, read_at};
 
 // What reading finds: a number and the place after it, or why there is none. Cut: the bytes end where a group should stand. Faulty: more than ten groups,
 // 2^64 or more, or not the shortest form.
-#[derive(Drop)]
+#[derive(Clone, Copy)]
 pub enum Number {
     Read { value: u64, next: usize },
     Cut,

@@ -1,5 +1,7 @@
 // The number leaves on patterns. They refuse nothing. Of the root, fused multiply-add and hypot the contract gives the pattern, and says that what it reads
 // as is nearest to the exact value, and that no other value is.
+#![tactic(auto)]
+
 ghost use Rattle.std.specs.Prelude.{◌≡◌};
 ghost use Rattle.std.specs.Float.{binary64};
 ghost use Rattle.std.specs.Float.Ieee.{of_bits, to_bits};

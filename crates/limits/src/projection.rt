@@ -6,7 +6,7 @@ use picks::pick;
 use rows::block::Block;
 
 // The projected ends.
-#[derive(Drop)]
+#[derive(Clone, Copy)]
 pub struct Span {
     pub low: f64,
     pub high: f64,

@@ -14,7 +14,7 @@ use byte_lists::doubles;
 use refusals::chain::{or, unless};
 
 // What is asked of each entry with the next.
-#[derive(Drop)]
+#[derive(Clone, Copy)]
 pub enum Pair {
     Rising,
     NotBothZero,

@@ -1,5 +1,5 @@
 -- The upper digits of the sum of two squares, the second one cut: the code of `upper_sum`.
-use Rattle.std.proofs.Common.{◌≡◌, ℕ, ◌+◌, ◌-◌, ◌*◌, ◌/◌, ◌%◌, ◌^◌, ◌<◌, ◌≤◌, sym, ap, ◌∙◌, subst, lt_of_le_of_lt, mul-le-mul_right, mod-lt, div-lt_iff_lt-mul, mul-le-mul, mul-pos, div-add-mod', le-div_iff_mul-le, div-le_self, div-mul-le_self, arith, pow_pos, pow-add}
+use Rattle.std.proofs.Common.{◌≡◌, ℕ, ◌+◌, ◌*◌, ◌/◌, ◌%◌, ◌^◌, ◌<◌, ◌≤◌, sym, ap, ◌∙◌, subst, lt_of_le_of_lt, mul-le-mul_right, mod-lt, div-lt_iff_lt-mul, mul-le-mul, mul-pos, div-add-mod', le-div_iff_mul-le, div-le_self, div-mul-le_self, arith, pow_pos, pow-add}
 use Rattle.exact_roots.proofs.Roots.{square_rises}
 
 -- ---- the upper digits h of the square of 2 ^ 11 times m, from its upper word

@@ -1,5 +1,5 @@
 // What became of a guess: it is right, or nothing is known of it.
-#[derive(Drop)]
+#[derive(Clone, Copy)]
 pub enum Guess {
     Right(f64),
     Unknown,

@@ -36,6 +36,7 @@ module _ {A : Type 0} (P : A → Type 0) (op : A → A → A) (S : Semilattice P
   last b x (y ∷ ys) B X L = ap (λ (z : A). foldl op z ys) (swap b x y B X L.0) ∙ last (op b y) x ys (S.closed b y B L.0) X L.1
 
   absorb : (b x : A) (l : List A) → P b → P x → All P l → Memᴰ x l → op (foldl op b l) x ≡ foldl op b l
+  absorb b x [] B X L m = elim m [ ]
   absorb b x (y ∷ ys) B X L (Memᴰ.head e) =
       ap (op (foldl op (op b y) ys)) e
       ∙ ap (λ (z : A). op z y) (last b y ys B L.0 L.1)

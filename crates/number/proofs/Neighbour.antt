@@ -1,4 +1,4 @@
--- `nextDown f x` is x's neighbour: the format holds it, it is less than x, and no value that the format holds lies between. Assumes nothing.
+-- `next_down f x` is x's neighbour: the format holds it, it is less than x, and no value that the format holds lies between. Assumes nothing.
 use Rattle.std.proofs.Common.{◌≡◌, ℕ, zero, suc, ◌+◌, ◌-◌, ◌*◌, ◌^◌, ◌<◌, Bool, true, false, T, ◌⊎◌, ℤ, sym, refl, ap, ◌∙◌, subst, inl, inr, add_assoc, eq-or-lt_of_le, zero-add, zero-mul, arith, pow_pos}
 use lib.Ieee.{Float, nan, inf, fin, Format, binary32, binary64, low, hid, ones, top, up, down, minus, lt, fits, of_bits, to_bits}
 use lib.Ieee.Digits.{minus_val}

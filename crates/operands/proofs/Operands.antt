@@ -1,6 +1,6 @@
 -- What a pattern's sign and magnitude stand for, which patterns are special, and what the code of `special`, `normal` and `split` finds. Assumes nothing.
 use Rattle.std.proofs.Common.{◌≡◌, ℕ, zero, suc, ◌+◌, ◌*◌, ◌/◌, ◌%◌, ◌^◌, ◌<◌, ◌≤◌, Bool, true, false, cond, not, ◌&&◌, T, eqb, ltb, leb, ◌⊎◌, sym, refl, ap, ◌∙◌, subst, ap₂, inl, inr, le_of_eq, lt_of_lt_of_le, lt_of_le_of_lt, lt_irrefl, mod-eq_of_lt, zero-lt-suc, eq-zero-or-pos, eq-or-lt_of_le, mul-pos, zero-mul, arith, lit<, ltb→lt, leb→le, nltb→le, pow_pos, ltb-true, le-ltb, lt-ltb, ne_eqb, le-leb, leb-true}
-use mathlib.Core.Bool.{and_false, false≢true}
+use mathlib.Core.Bool.{and-false, false≢true}
 use borrow.Author.Tests.{lt-leb}
 use lib.Dec.{nleb→lt}
 use lib.Pow.{field}
@@ -112,7 +112,7 @@ module _ (b : ℕ) (B : b < 2 ^ 64) where
 
           at : (t : Bool) → (T t → w < 2046) → (T (not t) → 2046 ≤ w) → t ≡ is_normal b
           at true a c = let h = small p w g (a tt) in sym (ap₂ ◌&&◌ (le-leb (2 ^ 52) p h.0) (lt-ltb p infinite h.1))
-          at false a c = sym (ap (λ (q : Bool). leb (2 ^ 52) p && q) (le-ltb p infinite (large p w g (c tt))) ∙ and_false (leb (2 ^ 52) p))
+          at false a c = sym (ap (λ (q : Bool). leb (2 ^ 52) p && q) (le-ltb p infinite (large p w g (c tt))) ∙ and-false (leb (2 ^ 52) p))
 
   -- what `fields` finds in a normal value's magnitude
   pub code_fields : is_normal b ≡ true → (m k : ℕ) → (m ≡ magnitude b % 2 ^ 52 + 2 ^ 52) × (k ≡ magnitude b / 2 ^ 52 + 52) → Unpacked b m k

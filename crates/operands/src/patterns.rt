@@ -6,7 +6,7 @@ ghost use Rattle.operands.specs.SignAndSize.{is_special, is_normal, Unpacked};
 use rounding::packing::{Parts, fields, unpacked};
 
 // The parts of the three operands.
-#[derive(Drop)]
+#[derive(Clone, Copy)]
 pub struct Triple {
     pub x: Parts,
     pub y: Parts,

@@ -16,6 +16,7 @@ use Rattle.rows.proofs.Within.{one_truth}
 
 any_member : (p : Row → Bool) (w : Row) (m : List Row) → Memᴰ w m → T (p w) → T (any p m)
 unfolding any
+any_member p w [] k t = elim k [ ]
 any_member p w (v ∷ m) (Memᴰ.head e) t = or_l (p v) (any p m) (subst (λ (u : Row). T (p u)) e t)
 any_member p w (v ∷ m) (Memᴰ.tail k) t = or_r (p v) (any p m) (any_member p w m k t)
 
@@ -59,6 +60,7 @@ gathered_held P g h [] = tt
 gathered_held P g h (w ∷ l) = all_append P (g w) (gathered g l) (h w) (gathered_held P g h l)
 
 gathered_member : {A : Type 0} (g : Row → List A) (w : Row) (m : List Row) → Memᴰ w m → Within (g w) (gathered g m)
+gathered_member g w [] t x k = elim t [ ]
 gathered_member g w (v ∷ m) (Memᴰ.head e) x k = Memᴰ.append_left (gathered g m) (subst (λ (u : Row). Memᴰ x (g u)) e k)
 gathered_member g w (v ∷ m) (Memᴰ.tail t) x k = Memᴰ.append_right (g v) (gathered_member g w m t x k)
 

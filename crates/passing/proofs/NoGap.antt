@@ -102,7 +102,7 @@ mid_line c k r x y z X Z m =
 
 -- ---- a row
 
--- what `allWithin` tests
+-- what `all_within` tests
 record Meets (tol lim a b c : Float) : Type 0 where
   lim_finite : T (finite lim)
   first : Under tol a

@@ -8,7 +8,7 @@ use native.Mathlib.Omega.{arith}
 use lib.IntN.{negsuc}
 use lib.Dec.{T, lit≤}
 use lib.Pow.{pow-add, pow_mono}
-use lib.Ieee.{Float, nan, inf, fin, binary64, low, size, of_bits, mul, add, le, lt, fits}
+use lib.Ieee.{Float, nan, inf, fin, binary64, size, of_bits, mul, add, le, lt, fits}
 use lib.Ieee.Digits.{size-lt}
 use lib.Ieee.Fits.{add-fits, mul-fits}
 use lib.Ieee.Scale.{finite}

@@ -5,7 +5,7 @@ ghost use Rattle.payloads.specs.Payload.{form_of, form_number};
 use refusals::most;
 
 // A count, at most so many, and that many patterns; an even grid; or the refusal of what is no kind.
-#[derive(Drop)]
+#[derive(Clone, Copy)]
 pub enum Form {
     Listed(u64),
     Grid,

@@ -6,7 +6,7 @@ use fused::multiply_add;
 use roots::square_root;
 
 // s0, t0, root a0 and c1 = (a1 - a0)/(s1 - s0).
-#[derive(Drop)]
+#[derive(Clone, Copy)]
 pub struct Piece {
     pub station: f64,
     pub time: f64,

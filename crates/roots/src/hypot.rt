@@ -16,7 +16,7 @@ use rounding::packing;
 use rounding::packing::Parts;
 
 // A number shifted down, and the digits that it lost.
-#[derive(Drop)]
+#[derive(Clone, Copy)]
 struct Shifted {
     whole: Wide,
     rest: u64,
@@ -52,7 +52,7 @@ fn sum_root(x: u64, y: u64, s: u64) -> u64
 }
 
 // The parts of two magnitudes.
-#[derive(Drop)]
+#[derive(Clone, Copy)]
 struct Pair {
     p: Parts,
     q: Parts,
@@ -129,7 +129,7 @@ fn tried_length(a: u64, b: u64) -> f64
 }
 
 // Two patterns in order.
-#[derive(Drop)]
+#[derive(Clone, Copy)]
 struct Sorted {
     larger: u64,
     smaller: u64,

@@ -6,7 +6,7 @@ ghost use Rattle.std.specs.Float.Ieee.Nearest.{closest};
 ghost use Rattle.rounding.specs.Packing.{deep, significand, exponent};
 
 // A magnitude m * 2^k / 2^1127.
-#[derive(Drop)]
+#[derive(Clone, Copy)]
 pub struct Parts {
     pub m: u64,
     pub k: u64,

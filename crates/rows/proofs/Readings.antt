@@ -1,6 +1,6 @@
 -- One row with its norm n and its raw tolerance t worked out: what it is read as, in the code's order.
 use mathlib.Core.Path.{◌≡◌, refl, sym}
-use mathlib.Core.Bool.{true, false, not, ◌&&◌, ◌||◌, and_false}
+use mathlib.Core.Bool.{true, false, not, ◌&&◌, ◌||◌, and-false}
 use lib.Ieee.{Float, nan, inf, fin, binary64, eq, lt}
 use lib.Ieee.Scale.{finite}
 use Rattle.number.specs.Doubles.{zero, one, ◌⊗◌, ◌⊘◌}
@@ -14,12 +14,12 @@ use Rattle.rows.specs.declared.reading.Reading.TheVariants.{Unfit, Unmeetable, S
 -- a norm that is finite has finite parts
 norm_tells : (c p r : Float) → four_finite c p r (hypot_of binary64 c p) ≡ (finite r && finite (hypot_of binary64 c p))
 unfolding hypot_of
-norm_tells (inf s) p r = sym (and_false (finite r))
-norm_tells nan (inf t) r = sym (and_false (finite r))
-norm_tells nan nan r = sym (and_false (finite r))
-norm_tells nan (fin t n d) r = sym (and_false (finite r))
-norm_tells (fin s m e) (inf t) r = sym (and_false (finite r))
-norm_tells (fin s m e) nan r = sym (and_false (finite r))
+norm_tells (inf s) p r = sym (and-false (finite r))
+norm_tells nan (inf t) r = sym (and-false (finite r))
+norm_tells nan nan r = sym (and-false (finite r))
+norm_tells nan (fin t n d) r = sym (and-false (finite r))
+norm_tells (fin s m e) (inf t) r = sym (and-false (finite r))
+norm_tells (fin s m e) nan r = sym (and-false (finite r))
 norm_tells (fin s m e) (fin t n d) r = refl
 
 module _ (tol a : Float) (w : Row) where

@@ -5,7 +5,7 @@ ghost use Rattle.rows.specs.Judging.{within, three_within, judged};
 use crate::block::Block;
 
 // The three residuals where the row admits the speed.
-#[derive(Drop)]
+#[derive(Clone, Copy)]
 pub enum Judged {
     Broken,
     Fits {

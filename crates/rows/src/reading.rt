@@ -10,7 +10,7 @@ use crate::block::Block;
 use number::size;
 use roots::hypot;
 
-#[derive(Drop)]
+#[derive(Clone, Copy)]
 pub enum Reading {
     Unfit,
     Unmeetable,

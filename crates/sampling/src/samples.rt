@@ -11,7 +11,7 @@ use following::pass::Counts;
 use list_tests::tests;
 use profile::checks;
 
-#[derive(Drop)]
+#[derive(Clone, Copy)]
 pub enum Sampled {
     Done(Counts),
     Refused(u64),

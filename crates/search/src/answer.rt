@@ -1,7 +1,7 @@
 // What recovery answers.
 
 // Certified, with the speed, both worst figures and the number of candidates tried; or a refusal number and no more.
-#[derive(Drop)]
+#[derive(Clone, Copy)]
 pub enum Answer {
     Certified {
         speed: f64,

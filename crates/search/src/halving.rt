@@ -11,7 +11,7 @@ use limits::projection::Span;
 use tables::{certificate, verdict};
 
 // The ends of the halving: one that passes, with its figures, and one that is rejected.
-#[derive(Drop)]
+#[derive(Clone, Copy)]
 pub struct Ends {
     pub passing: f64,
     pub worst_normalized: f64,
@@ -21,7 +21,7 @@ pub struct Ends {
 }
 
 // The same without figures: those of the last passing end alone are asked for.
-#[derive(Drop)]
+#[derive(Clone, Copy)]
 pub(crate) struct Sides {
     pub passing: f64,
     pub rejected: f64,

@@ -11,7 +11,7 @@ use number::step;
 use tables::certificate;
 
 // A candidate that passes, or the number of those tried before the middle.
-#[derive(Drop)]
+#[derive(Clone, Copy)]
 pub enum Near {
     Found {
         speed: f64,

@@ -1,4 +1,6 @@
 // One section of a cut file: its kind, its payload's length and its payload, or the number of the first fault. Document 02, request 4, decides.
+#![tactic(auto)]
+
 ghost use Rattle.std.specs.Prelude.{◌≡◌};
 ghost use Rattle.refusals.specs.Outcome.{answered};
 ghost use Rattle.sections.specs.Section.{rises, kind_number, payload_at, length_at, kind_at, section_at};
@@ -9,7 +11,7 @@ use payloads::judging::payload_number;
 use refusals::chain::{or, unless};
 
 // A section whose payload goes from one place to another, or a refusal.
-#[derive(Drop)]
+#[derive(Clone, Copy)]
 pub enum Section {
     Placed { kind: u64, start: usize, end: usize },
     Refused(u64),

@@ -1,4 +1,6 @@
 // The end of a strap on an even grid: whether the last station is added. Document 02, request 3, decides.
+#![tactic(auto)]
+
 ghost use Rattle.std.specs.Prelude.{◌≡◌};
 ghost use Rattle.strap_end.specs.Final.{final_added};
 

@@ -11,7 +11,7 @@ use rows::reading;
 use rows::reading::Reading;
 
 // The rows so far: a refused one among them, or the number of blocks in the table.
-#[derive(Drop)]
+#[derive(Clone, Copy)]
 pub enum Filled {
     SomeUnfit,
     SomeUnmeetable,

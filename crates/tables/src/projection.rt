@@ -10,7 +10,7 @@ use number::size;
 use rows::block::Block;
 
 // Whether some row has an r that is not finite, whether some row is flat, and the speeds that the rows leave.
-#[derive(Drop)]
+#[derive(Clone, Copy)]
 pub struct Gathered {
     pub unreachable: bool,
     pub flat: bool,

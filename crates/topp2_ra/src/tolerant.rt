@@ -5,7 +5,7 @@ ghost use Rattle.topp2_ra.specs.Tolerant.{approx_order, not_less, not_greater};
 use number::size;
 use picks::pick;
 
-#[derive(Drop)]
+#[derive(Clone, Copy)]
 pub enum ApproxOrdering {
     Less,
     Equal,

@@ -5,7 +5,7 @@ ghost use Rattle.walk.specs.Walking.{started};
 use limits::request::{Station, Tolerances};
 
 // The last committed speed, the record of the station that has it, and how many stations there are so far.
-#[derive(Drop)]
+#[derive(Clone, Copy)]
 pub struct Walk {
     pub tolerances: Tolerances,
     pub speed: f64,

@@ -11,7 +11,7 @@ use search::answer::Answer;
 use topp2_ra::recovery::recover_forward_intersection;
 
 // The answer, and the walk after it.
-#[derive(Drop)]
+#[derive(Clone, Copy)]
 pub struct Stepped {
     pub walk: Walk,
     pub answer: Answer,

@@ -1,9 +1,9 @@
--- The exact sum of ±a and ±b, and `sum`, which rounds it: the cases, scaled and swapped operands, `fmaOf` of three finite values,
+-- The exact sum of ±a and ±b, and `sum`, which rounds it: the cases, scaled and swapped operands, `fma_of` of three finite values,
 -- and one operand cut to the other's window. Over any format. Assumes nothing.
 use Rattle.std.proofs.Common.{◌≡◌, ℕ, suc, ◌+◌, ◌-◌, ◌*◌, ◌/◌, ◌%◌, ◌^◌, ◌<◌, ◌≤◌, min, Bool, true, false, cond, ◌&&◌, ltb, ◌⊎◌, sym, refl, ap, ◌∙◌, ap₂, inl, inr, le_trans, le_of_eq, lt_of_lt_of_le, le_of_lt, mul_comm, add-mul, add_comm, mul-lt-mul_of_pos_right, mul-pos, div-add-mod', le-div_iff_mul-le, arith, pow_pos, pow-add, le-ltb, lt-ltb}
 use Prim.Native.Nat.{compare, Ordering}
 use native.Mathlib.Nat.{mul-sub, pow-succ'}
-use mathlib.Core.Bool.{beq, and_true, and_false}
+use mathlib.Core.Bool.{beq, and-true, and-false}
 use lib.Ieee.{Float, nan, inf, fin, Format, prec, up, down, unlike, round, sum}
 use lib.Ieee.Fits.{down_pos}
 use lib.Ieee.Exact.{HasValue}
@@ -28,10 +28,10 @@ module _ (s t : Bool) (a b : ℕ) where
   exact_less e h = (rw (e, lt-ltb a b h), rw (e, lt-ltb a b h))
 
   pub exact_more : beq s t ≡ false → b < a → Exact s (a - b)
-  exact_more e h = (rw (e, le-ltb a b (le_of_lt h), lt-ltb b a h) (sym (and_true s)), rw (e, le-ltb a b (le_of_lt h)))
+  exact_more e h = (rw (e, le-ltb a b (le_of_lt h), lt-ltb b a h) (sym (and-true s)), rw (e, le-ltb a b (le_of_lt h)))
 
   pub exact_even : beq s t ≡ false → a ≡ b → Exact false 0
-  exact_even e h = (rw (e, le-ltb a b (omega arith), le-ltb b a (omega arith)) (sym (and_false s)), rw (e, le-ltb a b (omega arith)) (omega arith))
+  exact_even e h = (rw (e, le-ltb a b (omega arith), le-ltb b a (omega arith)) (sym (and-false s)), rw (e, le-ltb a b (omega arith)) (omega arith))
 
 -- ---- `sum` rounds it
 pub sum_is : (f : Format) (s : Bool) (a : ℕ) (t : Bool) (b c : ℕ) → sum f s a t b c ≡ round f (exact_sign s a t b) (exact_size s a t b) c

@@ -1,4 +1,4 @@
--- Numbers of two limbs, and how they are cut. The contracts of the private functions cite these; what is right is said by `fmaOf` alone.
+-- Numbers of two limbs, and how they are cut. The contracts of the private functions cite these; what is right is said by `fma_of` alone.
 use Rattle.std.specs.Prelude.{ℕ, ◌+◌, ◌-◌, ◌*◌, ◌^◌, cond, nat_lt}
 use Rattle.std.specs.Int.Count.{count_leading_zeros}
 use Rattle.limbs.specs.declared.wide.Wide.{Wide}

@@ -9,7 +9,7 @@ use limbs::wide::{Wide, plus};
 use rounding::packing::Parts;
 
 // Two numbers, each times 2^k.
-#[derive(Drop)]
+#[derive(Clone, Copy)]
 pub(crate) struct Pair {
     pub a: Wide,
     pub b: Wide,
@@ -17,7 +17,7 @@ pub(crate) struct Pair {
 }
 
 // A number with a sign.
-#[derive(Drop)]
+#[derive(Clone, Copy)]
 pub(crate) struct Total {
     pub neg: bool,
     pub n: Wide,

@@ -3,7 +3,7 @@ ghost use Rattle.std.specs.Prelude.{◌≤◌, ◌≡◌, get_or};
 ghost use Rattle.words.specs.Spots.{belongs, run_end, part_of};
 
 // What a run is made of: all up to the line's end, spaces, or a word's bytes.
-#[derive(Drop)]
+#[derive(Clone, Copy)]
 pub enum Run {
     Line,
     Space,

@@ -1,0 +1,11 @@
+use Prim.Native.Nat.{◌-◌}
+use lib.ListN.{length}
+use Rattle.cut_files.specs.File.{fault_in}
+use Rattle.cut_files.proofs.Going.{Going}
+use Rattle.cut_files.proofs.judging.fault.Given as goal
+
+abbrev pub invariant-loop-at : goal.invariant-loop-at
+invariant-loop-at l = Going fault_in l.file l.at l.previous
+
+abbrev pub decreases-loop-at : goal.decreases-loop-at
+decreases-loop-at l = length l.file - l.at

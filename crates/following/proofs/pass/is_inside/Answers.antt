@@ -1,0 +1,19 @@
+use Rattle.std.proofs.Common.{sym, ◌∙◌, arith}
+use Rattle.byte_lists.specs.Bytes.{doubles_of}
+use Rattle.byte_lists.proofs.Fronts.{length_doubles}
+use Rattle.following.specs.Places.{is_inside}
+use Rattle.following.proofs.Cursors.{interval_le, next_within}
+use Rattle.following.proofs.pass.is_inside.Goals as goal
+
+pub overflow_add-result : goal.overflow_add-result
+overflow_add-result c =
+    omega (arith, c.requires, interval_le (doubles_of c.args.t.now) c.args.x, length_doubles c.args.t.now)
+
+pub returns-then-is_before : goal.returns-then-is_before
+unfolding is_inside
+returns-then-is_before c = rw (sym c.is_before.ensures ∙ c.if-is_before.true)
+
+pub returns-else-is_before : goal.returns-else-is_before
+unfolding is_inside
+returns-else-is_before c =
+    rw (sym c.is_before.ensures ∙ c.if-is_before.false, ← c.requires, length_doubles c.args.t.now) (next_within c.args.k _)

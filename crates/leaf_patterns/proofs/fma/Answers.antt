@@ -1,0 +1,11 @@
+use Rattle.number.proofs.ReadBack.{reads_back}
+use Rattle.leaf_patterns.proofs.fma.Goals as goal
+
+pub returns : goal.returns
+returns c =
+    let v = c.fma in
+    let p = c.pattern_of in
+    let z = c.double_of-3.ensures in
+    let y = c.double_of-2.ensures in
+    let x = c.double_of.ensures in
+    (simp (← p.ensures, ← v.ensures.is, ← z, ← y, ← x), rw (reads_back v.result p.result v.type_inv p.ensures, ← z, ← y, ← x) v.ensures)

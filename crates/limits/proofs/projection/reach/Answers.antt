@@ -1,0 +1,4 @@
+use Rattle.limits.proofs.projection.reach.Goals as goal
+
+pub returns : goal.returns
+returns c = simp (← c.minimum.ensures)

@@ -1,0 +1,6 @@
+use Rattle.list_tests.proofs.Exponents.{carries}
+use native.Mathlib.Omega.{arith}
+use Rattle.list_tests.proofs.tests.endless.Goals as goal
+
+pub returns : goal.returns
+returns c = (carries c.args.pattern, omega arith)

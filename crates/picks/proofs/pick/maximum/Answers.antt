@@ -1,0 +1,25 @@
+use mathlib.Core.Path.{sym, ◌∙◌}
+use lib.Ieee.{binary64}
+use Rattle.number.proofs.Order.{holds, le_number, eq_le, not_nan}
+use Rattle.number.proofs.Picks.{maximum_less, maximum_more, maximum_negative, maximum_other, maximum_nan}
+use Rattle.picks.proofs.pick.maximum.Goals as goal
+
+-- `picks::pick::maximum` meets its contract. Assumes nothing.
+pub returns-then-x-y : goal.returns-then-x-y
+returns-then-x-y c = maximum_less _ _ c.if-x-y.true
+
+pub returns-then-y-x : goal.returns-then-y-x
+returns-then-y-x c = maximum_more _ _ c.if-y-x.true
+
+pub negative-requires : goal.negative-requires
+negative-requires c = not_nan _ (le_number _ _ (eq_le _ _ (holds c.if-x-y-2.true))).1
+
+pub returns-then-negative : goal.returns-then-negative
+returns-then-negative c = maximum_negative _ _ c.if-x-y-2.true (sym c.negative.ensures ∙ c.if-negative.true)
+
+pub returns-then-x-y-2 : goal.returns-then-x-y-2
+returns-then-x-y-2 c =
+    maximum_other binary64 _ _ (holds c.well_formed.0.1) (holds c.well_formed.1.0.1) c.if-x-y-2.true (sym c.negative.ensures ∙ c.if-negative.false)
+
+pub returns : goal.returns
+returns c = c.other.ensures ∙ maximum_nan _ _ c.if-y-x.false c.if-x-y.false c.if-x-y-2.false

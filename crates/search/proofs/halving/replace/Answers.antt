@@ -1,0 +1,10 @@
+use Rattle.search.specs.OnTable.{moved}
+use Rattle.search.proofs.halving.replace.Goals as goal
+
+pub returns-then-passes : goal.returns-then-passes
+unfolding moved
+returns-then-passes c = simp c.if-passes.true
+
+pub returns : goal.returns
+unfolding moved
+returns c = simp c.if-passes.false

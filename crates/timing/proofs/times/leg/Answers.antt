@@ -1,0 +1,7 @@
+use mathlib.Core.Path.{refl}
+use Rattle.timing.specs.Times.{leg}
+use Rattle.timing.proofs.times.leg.Goals as goal
+
+pub returns : goal.returns
+unfolding leg
+returns c = refl
