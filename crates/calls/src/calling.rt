@@ -5,7 +5,7 @@ use malikoza::{leaves, stations};
 use words::bytes::{within, word};
 
 // What a call returns, and the four lent numbers after it.
-#[derive(Drop)]
+#[derive(Clone, Copy)]
 pub(crate) struct Told {
     pub(crate) number: u64,
     pub(crate) first: u64,

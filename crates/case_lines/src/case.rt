@@ -4,9 +4,7 @@ ghost use Rattle.std.specs.Prelude.{◌≡◌, length};
 use crate::letters;
 use crate::lists::{HEAD, apply, bytes_of};
 use crate::usual::prepare;
-use bytes::copy;
 use calls::comparing::{agrees, mark};
-use check::same;
 use words::bytes::{put, within, word};
 use words::text::part_of;
 
@@ -73,9 +71,9 @@ fn is_expected(out: &[u8], line: &[u8], whole: &mut [u8]) -> bool {
     mark(whole);
     let both = within(out.len() as u64, whole.len());
     let n = within(bytes_of(line, letters::FRONT, 0) as u64, both);
-    copy(&out[0..n], whole);
+    whole[0..n].copy_from_slice(&out[0..n]);
     apply(whole, letters::ENTRIES, line);
-    same(out, whole)
+    *out == *whole
 }
 
 fn is_left(out: &[u8], line: &[u8]) -> bool {
@@ -106,7 +104,7 @@ fn built(case: &mut [u8], head: &[u8], line: &[u8]) -> bool {
 }
 
 pub(crate) fn holds(line: &[u8]) -> bool {
-    let mut head = io::buffer();
+    let mut head = [0u8; 4096];
     apply(&mut head, HEAD, line);
     let mut case = sheet();
     built(&mut case, &head, line)

@@ -1,4 +1,6 @@
 // Cases as lines of text: each is read, called and compared, and told by its name.
+#![tactic(auto)]
+
 mod case;
 mod letters;
 mod lists;
@@ -6,13 +8,13 @@ mod numerals;
 mod table;
 mod usual;
 
-use libc::{STDIN_FILENO, STDOUT_FILENO};
+use calls::reading::fill;
+use std::io;
 
 // The lines are those of the standard input. For each case its name is written and whether the library answers what the line says; then how many there were.
-pub fn run() {
-    let mut text = io::large_buffer();
-    let n = io::read_full(STDIN_FILENO, &mut text);
-    let cases = table::run(&text[..n]);
-    io::print_decimal(STDOUT_FILENO, cases);
-    io::write_all(STDOUT_FILENO, b" cases\n");
+pub fn run(rt: &(impl Input + Print)) -> io::Result<()> {
+    let mut text = [0u8; 65_536];
+    let n = fill(&mut rt.reader(), &mut text)?;
+    let cases = table::run(rt, &text[..n])?;
+    println!(rt; "{cases} cases")
 }

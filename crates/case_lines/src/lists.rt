@@ -9,7 +9,7 @@ use words::text::{Run, first_byte, part_of, run_end};
 pub(crate) const HEAD: u64 = 0;
 
 // The letter that was read last, and the place of the next number.
-#[derive(Drop)]
+#[derive(Clone, Copy)]
 struct Spot {
     letter: u64,
     place: u64,

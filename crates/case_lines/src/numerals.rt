@@ -3,7 +3,7 @@ use patterns::pattern::pattern_of;
 use words::text::first_byte;
 
 // The digits read so far; after a point also the power of ten that they are to be divided by, which is 0 before it.
-#[derive(Drop)]
+#[derive(Clone, Copy)]
 struct Partial {
     value: u64,
     hex: bool,

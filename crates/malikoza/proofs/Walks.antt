@@ -32,7 +32,7 @@ pub starting : (feas abs rel speed lower upper cap : ℕ) {words : List ℕ}
 starting feas abs rel speed lower upper cap e = record {
   left = e;
   state = ap walk_of e ∙ start_reads feas abs rel speed lower upper cap;
-  stage_by_stage_lem = along _;
+  stage_by_stage = along _;
 }
 
 module _ (w : Walk) (s : Station) (rows : List ℕ) where

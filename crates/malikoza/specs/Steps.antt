@@ -14,7 +14,7 @@ use Rattle.walk_words.specs.Words.{walk_of, words_of, stepped_bytes, words_left}
 pub record Starting (tolerances : Tolerances) (speed : Float) (station : Station) (words : List ℕ) : Type 0 where
   pub left : words ≡ words_of (started tolerances speed station)
   pub state : walk_of words ≡ started tolerances speed station
-  pub stage_by_stage_lem : StageByStage (started tolerances speed station)
+  pub stage_by_stage : StageByStage (started tolerances speed station)
 
 -- the reply to the step's answer; the words after it, which read as the walk after it
 pub record Stepping (old new : List ℕ) (s : Station) (rows : List ℕ) (number speed₀ speed normalized₀ normalized raw₀ raw tried₀ tried : ℕ) : Type 0 where

@@ -5,13 +5,7 @@ use cut_files::parts::locate;
 
 // Returns 0 and writes where the payload of the section of a kind starts within the file, and its length in bytes; or returns the refusal number and writes
 // nothing.
-#[unsafe(no_mangle)]
-pub extern "C" fn malikoza_cut_file_section(
-    file: &[u8],
-    kind: u64,
-    start: &mut u64,
-    length: &mut u64,
-) -> u64
+pub fn malikoza_cut_file_section(file: &[u8], kind: u64, start: &mut u64, length: &mut u64) -> u64
     ensures { Located file.now kind result
         start.old start.new
         length.old length.new }

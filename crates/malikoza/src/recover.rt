@@ -6,8 +6,7 @@ use replies::recovery::{recover_bytes, tell};
 use requests::from_patterns::request_from;
 
 // Returns 0 and writes the four lent numbers, or returns the refusal number and writes nothing.
-#[unsafe(no_mangle)]
-pub extern "C" fn malikoza_recover(
+pub fn malikoza_recover(
     a_prev: u64,
     prev_lower: u64,
     prev_upper: u64,

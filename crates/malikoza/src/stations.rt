@@ -13,24 +13,21 @@ use sloping::slopes::a_to_b_topp2;
 use timing::times::s_to_t_topp2;
 
 // One entry fewer than stations.
-#[unsafe(no_mangle)]
-pub extern "C" fn malikoza_a_to_b(s: &[u8], a: &[u8], out: &mut [u8]) -> u64
+pub fn malikoza_a_to_b(s: &[u8], a: &[u8], out: &mut [u8]) -> u64
     ensures { ByteSlopes s.now a.now out.old result out.new }
 {
     a_to_b_topp2(s, a, out)
 }
 
 // One entry for each station.
-#[unsafe(no_mangle)]
-pub extern "C" fn malikoza_s_to_t(s: &[u8], a: &[u8], t0: u64, out: &mut [u8]) -> u64
+pub fn malikoza_s_to_t(s: &[u8], a: &[u8], t0: u64, out: &mut [u8]) -> u64
     ensures { ByteTimes s.now a.now (of_bits binary64 t0) out.old result out.new }
 {
     s_to_t_topp2(s, a, double_of(t0), out)
 }
 
 // One entry for each sample.
-#[unsafe(no_mangle)]
-pub extern "C" fn malikoza_t_to_s_list(
+pub fn malikoza_t_to_s_list(
     s: &[u8],
     a: &[u8],
     t: &[u8],
@@ -53,8 +50,7 @@ pub extern "C" fn malikoza_t_to_s_list(
 }
 
 // One entry for each time of the grid, and the last station where it is asked for and due.
-#[unsafe(no_mangle)]
-pub extern "C" fn malikoza_t_to_s_grid(
+pub fn malikoza_t_to_s_grid(
     s: &[u8],
     a: &[u8],
     t: &[u8],

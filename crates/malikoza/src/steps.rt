@@ -9,8 +9,7 @@ use walk_words::state::start_words;
 use walk_words::step::{leave, step_words};
 
 // Writes the eight words, and refuses nothing.
-#[unsafe(no_mangle)]
-pub extern "C" fn malikoza_walk_start(
+pub fn malikoza_walk_start(
     feas_tol: u64,
     a_cmp_abs_tol: u64,
     a_cmp_rel_tol: u64,
@@ -38,8 +37,7 @@ pub extern "C" fn malikoza_walk_start(
 }
 
 // Returns 0, writes the four lent numbers and moves the walk on; or returns the refusal number and writes nothing.
-#[unsafe(no_mangle)]
-pub extern "C" fn malikoza_walk_step(
+pub fn malikoza_walk_step(
     walk: &mut [u64; 8],
     lower: u64,
     upper: u64,

@@ -3,6 +3,7 @@ ghost use Rattle.std.specs.Prelude.{◌≤◌, length};
 
 use crate::comparing::is_as_recorded;
 use crate::telling;
+use std::io;
 use words::bytes::{within, word};
 
 // Whether the places where lists and output end rise from the 22 numbers to the case's own end.
@@ -30,23 +31,23 @@ fn is_case(case: &[u8]) -> bool {
     if entry < 8 {
         return case.len() == 48;
     }
-    if entry < 16 {
+    if entry < 15 {
         return is_whole(case);
     }
     false
 }
 
-// Counts a case of the entry at its place, and one that differs 16 places on.
-fn count(case: &[u8], tally: &mut [u64; 32]) {
-    let entry = within(word(case, 1), 15);
+// Counts a case of the entry at its place, and one that differs 15 places on.
+fn count(case: &[u8], tally: &mut [u64; 30]) {
+    let entry = within(word(case, 1), 14);
     tally[entry] = std::num::wrapping_add_u64(tally[entry], 1);
     if !is_as_recorded(case) {
-        tally[entry + 16] = std::num::wrapping_add_u64(tally[entry + 16], 1);
+        tally[entry + 15] = std::num::wrapping_add_u64(tally[entry + 15], 1);
     }
 }
 
 // The length of the case that the bytes begin with, or 0 where there is none.
-fn taken(rest: &[u8], tally: &mut [u64; 32]) -> usize
+fn taken(rest: &[u8], tally: &mut [u64; 30]) -> usize
     ensures { result ≤ length rest.now }
 {
     let n = within(word(rest, 0), rest.len());
@@ -60,7 +61,7 @@ fn taken(rest: &[u8], tally: &mut [u64; 32]) -> usize
 }
 
 // Where the cases end, or where one does not keep its form.
-fn counted_up_to(file: &[u8], tally: &mut [u64; 32]) -> usize {
+fn counted_up_to(file: &[u8], tally: &mut [u64; 30]) -> usize {
     let mut at = 16;
     while at < file.len() {
         let n = taken(&file[at..], tally);
@@ -73,20 +74,17 @@ fn counted_up_to(file: &[u8], tally: &mut [u64; 32]) -> usize {
 }
 
 // The file begins with the letters "malikoza" and the number of its cases.
-pub(crate) fn replay(file: &[u8]) {
-    let mut tally = [0u64; 32];
+pub(crate) fn replay(rt: &impl Print, file: &[u8]) -> io::Result<()> {
+    let mut tally = [0u64; 30];
     if word(file, 0) != 0x617a_6f6b_696c_616d {
-        telling::malformed(0);
-        return;
+        return telling::malformed(rt, 0);
     }
     let at = counted_up_to(file, &mut tally);
     if at != file.len() {
-        telling::malformed(at);
-        return;
+        return telling::malformed(rt, at);
     }
     if telling::total(&tally, 0) != word(file, 1) {
-        telling::malformed(8);
-        return;
+        return telling::malformed(rt, 8);
     }
-    telling::tell(&tally);
+    telling::tell(rt, &tally)
 }

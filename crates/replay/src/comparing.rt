@@ -1,18 +1,17 @@
 // Whether a call leaves behind what was recorded: its number, the lent numbers, and the whole output, so that what lies past the written front is held too.
 use calls::comparing::agrees;
-use check::same;
 use words::bytes::{within, word};
 
 fn leaves(case: &[u8], told: &[u8], expected: &[u8], out: &mut [u8]) -> bool {
     if agrees(case, told, out) {
-        return same(out, expected);
+        return *out == *expected;
     }
     false
 }
 
 // The expected output is as long as the one that is lent. One beyond a page differs.
 fn leaves_behind(case: &[u8], told: &[u8], expected: &[u8]) -> bool {
-    let mut page = io::buffer();
+    let mut page = [0u8; 4096];
     let n = within(expected.len() as u64, page.len());
     leaves(case, told, expected, &mut page[0..n])
 }

@@ -1,68 +1,62 @@
 // What is printed.
 ghost use Rattle.std.specs.Prelude.{◌≤◌};
 
-use libc::STDOUT_FILENO;
+use std::io;
 
-fn leaf_name(entry: usize) -> bool {
+fn leaf_name(entry: usize) -> &'static str {
     match entry {
-        0 => io::write_all(STDOUT_FILENO, b"malikoza_sqrt: "),
-        1 => io::write_all(STDOUT_FILENO, b"malikoza_fma: "),
-        2 => io::write_all(STDOUT_FILENO, b"malikoza_hypot: "),
-        3 => io::write_all(STDOUT_FILENO, b"malikoza_next_down: "),
-        4 => io::write_all(STDOUT_FILENO, b"malikoza_minimum: "),
-        5 => io::write_all(STDOUT_FILENO, b"malikoza_maximum: "),
-        6 => io::write_all(STDOUT_FILENO, b"malikoza_absolute: "),
-        _ => io::write_all(STDOUT_FILENO, b"malikoza_whole_part: "),
+        0 => "malikoza_sqrt",
+        1 => "malikoza_fma",
+        2 => "malikoza_hypot",
+        3 => "malikoza_next_down",
+        4 => "malikoza_minimum",
+        5 => "malikoza_maximum",
+        6 => "malikoza_absolute",
+        _ => "malikoza_whole_part",
     }
 }
 
-fn name(entry: usize) -> bool {
+fn name(entry: usize) -> &'static str {
     match entry {
-        8 => io::write_all(STDOUT_FILENO, b"malikoza_recover: "),
-        9 => io::write_all(STDOUT_FILENO, b"malikoza_a_to_b: "),
-        10 => io::write_all(STDOUT_FILENO, b"malikoza_s_to_t: "),
-        11 => io::write_all(STDOUT_FILENO, b"malikoza_t_to_s_list: "),
-        12 => io::write_all(STDOUT_FILENO, b"malikoza_t_to_s_grid: "),
-        13 => io::write_all(STDOUT_FILENO, b"malikoza_walk_start: "),
-        14 => io::write_all(STDOUT_FILENO, b"malikoza_walk_step: "),
-        15 => io::write_all(STDOUT_FILENO, b"malikoza_cut_file_section: "),
+        8 => "malikoza_recover",
+        9 => "malikoza_a_to_b",
+        10 => "malikoza_s_to_t",
+        11 => "malikoza_t_to_s_list",
+        12 => "malikoza_t_to_s_grid",
+        13 => "malikoza_walk_start",
+        14 => "malikoza_walk_step",
         _ => leaf_name(entry),
     }
 }
 
-fn counts(cases: u64, differ: u64) {
-    io::print_decimal(STDOUT_FILENO, cases);
-    io::write_all(STDOUT_FILENO, b" cases, ");
-    io::print_decimal(STDOUT_FILENO, differ);
-    io::write_all(STDOUT_FILENO, b" differ\n");
+fn counts(rt: &impl Print, cases: u64, differ: u64) -> io::Result<()> {
+    println!(rt; "{cases} cases, {differ} differ")
 }
 
-// A tally has 16 numbers of cases, by entry, and then as many of those that differ: the sum of either.
-pub(crate) fn total(tally: &[u64; 32], from: usize) -> u64
-    requires { from ≤ 16 }
+// A tally has 15 numbers of cases, by entry, and then as many of those that differ: the sum of either.
+pub(crate) fn total(tally: &[u64; 30], from: usize) -> u64
+    requires { from ≤ 15 }
 {
     let mut sum = 0;
     let mut i = 0;
-    while i < 16 {
+    while i < 15 {
         sum = std::num::wrapping_add_u64(sum, tally[from + i]);
         i += 1;
     }
     sum
 }
 
-pub(crate) fn tell(tally: &[u64; 32]) {
+pub(crate) fn tell(rt: &impl Print, tally: &[u64; 30]) -> io::Result<()> {
     let mut i = 0;
-    while i < 16 {
-        name(i);
-        counts(tally[i], tally[i + 16]);
+    while i < 15 {
+        print!(rt; "{}: ", name(i))?;
+        counts(rt, tally[i], tally[i + 15])?;
         i += 1;
     }
-    counts(total(tally, 0), total(tally, 16));
+    counts(rt, total(tally, 0), total(tally, 15))
 }
 
 // Where a case, or the file as a whole, does not keep its form.
-pub(crate) fn malformed(at: usize) {
-    io::write_all(STDOUT_FILENO, b"no list of cases: malformed at byte ");
-    io::print_decimal(STDOUT_FILENO, at as u64);
-    io::write_all(STDOUT_FILENO, b"\n");
+pub(crate) fn malformed(rt: &impl Print, at: usize) -> io::Result<()> {
+    println!(rt; "no list of cases: malformed at byte {at}")
 }

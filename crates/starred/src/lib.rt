@@ -1,4 +1,6 @@
 // Document 01's starred cases, one list under one statement.
+#![tactic(auto)]
+
 ghost use Rattle.std.specs.Prelude.{◌≡◌, length};
 ghost use Rattle.starred.specs.Cases.{starred, AllHold};
 

@@ -97,7 +97,7 @@ fn readme_counts_crates_and_edits() {
     let (crates, passed) = (crates.len(), crates.len() + edits);
     let told = [
         format!("proves the {crates} crates;"),
-        format!("`rt: ok, {crates} crates proved`"),
+        format!("`{crates} of {crates} crates ok`"),
         format!("tries {edits} edits"),
         format!("`{passed} passed, 0 failed`"),
     ];
@@ -120,7 +120,7 @@ fn name(case: &str) -> String {
 #[test]
 fn each_case_is_told_in_words() {
     let statements = text("docs/STATEMENTS.md");
-    for case in [cases("bench"), cases("bench_edges")].concat() {
+    for case in [cases("bench"), cases("bench_files"), cases("bench_edges")].concat() {
         assert!(statements.contains(&name(&case)), "docs/STATEMENTS.md lacks {case}");
     }
 }
@@ -153,7 +153,8 @@ fn stands(figure: &str, text: &str) -> bool {
 #[test]
 fn each_worked_figure_is_a_case() {
     let rules = text("docs/RULES.md");
-    let worked: Vec<String> = cases("bench").into_iter().filter(|case| case.starts_with('w')).collect();
+    let all = [cases("bench"), cases("bench_files")].concat();
+    let worked: Vec<String> = all.into_iter().filter(|case| case.starts_with('w')).collect();
     for case in &worked {
         let section = rules.split("\n#").find(|section| section.contains(&name(case)));
         let section = section.unwrap_or_else(|| panic!("docs/RULES.md lacks {case}"));
@@ -163,7 +164,7 @@ fn each_worked_figure_is_a_case() {
     }
     let told = rules.split('`').filter(|word| word.starts_with('w') && word.ends_with(|c: char| c.is_ascii_digit()));
     for word in told {
-        assert!(worked.iter().any(|case| name(case) == format!("`{word}`")), "bench lacks {word}");
+        assert!(worked.iter().any(|case| name(case) == format!("`{word}`")), "no case is named {word}");
     }
 }
 
