@@ -115,7 +115,8 @@ module _ (s a t : List Float) (t0 dt : Float) (final : Bool) (x : List Float) (o
   few_written = let fits = gridded s a t t0 dt final (length old / 8) z in rw all_passed.counts (omega (arith, fits))
 
   pub finished : (r : Counts) (new : List ℕ) → Ended (final_added final t0 (last_of t) p.last (last_of s)) n (last_of s) p.counts mid r new
-      → Outcome (Done (grid_counts s a t t0 dt final)) Refused (grid_no s a t t0 dt final (length old / 8)) (byte_of (grid_entry s a t t0 dt)) (8 * grid_entries s a t t0 dt final) old (Done r) new
+      → Outcome (Done (grid_counts s a t t0 dt final)) Refused (grid_no s a t t0 dt final (length old / 8))
+      (byte_of (grid_entry s a t t0 dt)) (8 * grid_entries s a t t0 dt final) old (Done r) new
   unfolding grid_entry grid_entries grid_station
   finished r new d =
       let f = grid_station s a t t0 dt in

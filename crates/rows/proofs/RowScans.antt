@@ -35,7 +35,8 @@ short (a ∷ b ∷ c ∷ l) h = absurd (omega arith)
 pub rows_end : (l : List Float) (i : ℕ) → length l - i < 3 → rows_of (drop i l) ≡ []
 rows_end l i h = short (drop i l) (omega (arith, length-drop i l))
 
-pub fold_at : {S : Type 0} (f : S → Row → S) (s : S) (l : List Float) (i : ℕ) → i + 3 ≤ length l → fold f s (rows_of (drop i l)) ≡ fold f (f s (row_at l i)) (rows_of (drop (i + 3) l))
+pub fold_at : {S : Type 0} (f : S → Row → S) (s : S) (l : List Float) (i : ℕ)
+    → i + 3 ≤ length l → fold f s (rows_of (drop i l)) ≡ fold f (f s (row_at l i)) (rows_of (drop (i + 3) l))
 unfolding fold
 fold_at f s l i h = rw (rows_at l i h)
 

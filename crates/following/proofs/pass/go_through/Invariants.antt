@@ -8,7 +8,9 @@ use Rattle.following.proofs.pass.go_through.Given as goal
 abbrev pub invariant-loop-j : goal.invariant-loop-j
 invariant-loop-j l =
     let f = station_of (doubles_of l.s) (doubles_of l.a) (doubles_of l.t) l.source (doubles_of l.x) in
-    (l.j ≤ l.n) × (l.n ≤ length l.out / 8) × (l.n ≤ 2 ^ 61) × Standing (doubles_of l.s) (doubles_of l.a) (doubles_of l.t) l.w × (l.counts ≡ counts_of (doubles_of l.t) (time_of l.source (doubles_of l.x)) l.j l.j)
+    (l.j ≤ l.n) × (l.n ≤ length l.out / 8) × (l.n ≤ 2 ^ 61)
+    × Standing (doubles_of l.s) (doubles_of l.a) (doubles_of l.t) l.w
+    × (l.counts ≡ counts_of (doubles_of l.t) (time_of l.source (doubles_of l.x)) l.j l.j)
     × (l.last ≡ last_entry f l.j) × (length l.out ≡ length l.initial.out) × (l.out ≡ filled (byte_of f) (8 * l.j) l.initial.out)
 
 abbrev pub decreases-loop-j : goal.decreases-loop-j

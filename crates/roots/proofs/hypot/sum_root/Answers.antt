@@ -5,12 +5,43 @@ use Rattle.roots.proofs.Squares.{given}
 use Rattle.roots.proofs.hypot.sum_root.Goals as goal
 
 pub overflow_add-t : goal.overflow_add-t
-overflow_add-t c = record { fits = omega (arith, (given c.args.x c.args.y c.args.s c.requires.0 c.requires.1 c.requires.2 c.requires.3 c.product.result.hi c.product.result.lo c.cut-c.result.whole.hi c.cut-c.result.whole.lo c.cut-c.result.rest c.product-2.result.hi c.product-2.result.lo c.plus-t.result.hi c.plus-t.result.lo c.product.ensures c.cut-c.ensures c.product-2.ensures c.plus-t.ensures).most) }
+overflow_add-t c =
+    let r = c.requires in
+    let y = c.product in
+    let v = c.cut-c in
+    let x = c.product-2 in
+    let w = c.plus-t in
+    let g =
+    given c.args.x c.args.y c.args.s r.0 r.1 r.2 r.3
+    y.result.hi y.result.lo v.result.whole.hi v.result.whole.lo v.result.rest
+    x.result.hi x.result.lo w.result.hi w.result.lo
+    y.ensures v.ensures x.ensures w.ensures in
+    record { fits = omega (arith, g.most) }
 
 pub root-requires : goal.root-requires
-root-requires c = let g = given c.args.x c.args.y c.args.s c.requires.0 c.requires.1 c.requires.2 c.requires.3 c.product.result.hi c.product.result.lo c.cut-c.result.whole.hi c.cut-c.result.whole.lo c.cut-c.result.rest c.product-2.result.hi c.product-2.result.lo c.plus-t.result.hi c.plus-t.result.lo c.product.ensures c.cut-c.ensures c.product-2.ensures c.plus-t.ensures in
+root-requires c =
+    let r = c.requires in
+    let y = c.product in
+    let v = c.cut-c in
+    let x = c.product-2 in
+    let w = c.plus-t in
+    let g =
+    given c.args.x c.args.y c.args.s r.0 r.1 r.2 r.3
+    y.result.hi y.result.lo v.result.whole.hi v.result.whole.lo v.result.rest
+    x.result.hi x.result.lo w.result.hi w.result.lo
+    y.ensures v.ensures x.ensures w.ensures in
     (g.least, g.most, g.low, g.rest_lt)
 
 pub returns : goal.returns
-returns c = let g = given c.args.x c.args.y c.args.s c.requires.0 c.requires.1 c.requires.2 c.requires.3 c.product.result.hi c.product.result.lo c.cut-c.result.whole.hi c.cut-c.result.whole.lo c.cut-c.result.rest c.product-2.result.hi c.product-2.result.lo c.plus-t.result.hi c.plus-t.result.lo c.product.ensures c.cut-c.ensures c.product-2.ensures c.plus-t.ensures in
+returns c =
+    let r = c.requires in
+    let y = c.product in
+    let v = c.cut-c in
+    let x = c.product-2 in
+    let w = c.plus-t in
+    let g =
+    given c.args.x c.args.y c.args.s r.0 r.1 r.2 r.3
+    y.result.hi y.result.lo v.result.whole.hi v.result.whole.lo v.result.rest
+    x.result.hi x.result.lo w.result.hi w.result.lo
+    y.ensures v.ensures x.ensures w.ensures in
     c.root.ensures ∙ ap₂ stick_more g.value g.rest
