@@ -92,7 +92,8 @@ fn readme_counts_crates_and_edits() {
     let readme = text("README.md").split_whitespace().collect::<Vec<_>>().join(" ");
     let listed = text("crates.txt");
     let lines = listed.lines().filter(|line| !line.starts_with('#'));
-    let crates: Vec<&str> = lines.filter_map(|line| line.split_once(':')).map(|(name, _)| name).collect();
+    let heads = lines.filter_map(|line| line.split_once(':')).map(|(head, _)| head);
+    let crates: Vec<&str> = heads.filter_map(|head| head.split(' ').next()).collect();
     let edits: usize = crates.iter().map(|name| files(&format!("crates/{name}/must-fail")).len()).sum();
     let (crates, passed) = (crates.len(), crates.len() + edits);
     let told = [
