@@ -22,7 +22,9 @@ fn main() {
         if env::var_os("MALIKOZA_LIB_DIR").is_some() {
             eprintln!("MALIKOZA_LIB_DIR must be the full path of the folder that has libmalikoza.a, or not be set.");
         } else {
-            eprintln!("Make it with any command of `host/run`, as `host/run install FOLDER`, at the top of the repository;");
+            eprintln!(
+                "Make it with any command of `host/run`, as `host/run install FOLDER`, at the top of the repository;"
+            );
             eprintln!("or set MALIKOZA_LIB_DIR to the full path of the folder that it is in.");
         }
         process::exit(1);
