@@ -9,32 +9,23 @@ use patterns::pattern::{double_of, pattern_of};
 pub fn in_eights(a: usize, b: usize, c: usize) -> bool
     ensures { result ≡ eqb (a % 8) 0 && (eqb (b % 8) 0 && eqb (c % 8) 0) }
 {
-    if a % 8 == 0 {
-        if b % 8 == 0 {
-            return c % 8 == 0;
-        }
-    }
-    false
-}
-
-fn wide(x: u8) -> u64
-    ensures { (result ≡ x) × (result < 256) }
-{
-    x as u64
-}
-
-fn four_at(b: &[u8], i: usize) -> u64
-    requires { i + 4 ≤ length b.now }
-    ensures { (result ≡ four_at b.now i) × (result < 2 ^ 32) }
-{
-    wide(b[i]) + 0x100 * wide(b[i + 1]) + 0x1_0000 * wide(b[i + 2]) + 0x100_0000 * wide(b[i + 3])
+    a % 8 == 0 && b % 8 == 0 && c % 8 == 0
 }
 
 fn word_at(b: &[u8], i: usize) -> u64
     requires { i + 8 ≤ length b.now }
     ensures { result ≡ word_at b.now i }
 {
-    four_at(b, i) + 0x1_0000_0000 * four_at(b, i + 4)
+    u64::from_le_bytes([
+        b[i],
+        b[i + 1],
+        b[i + 2],
+        b[i + 3],
+        b[i + 4],
+        b[i + 5],
+        b[i + 6],
+        b[i + 7],
+    ])
 }
 
 // The pattern at place k of b, 0 where there is none.
@@ -55,33 +46,15 @@ pub fn double_at(b: &[u8], k: usize) -> f64
     if k < b.len() / 8 {
         double_of(word_at(b, 8 * k))
     } else {
-        0.0 / 0.0
+        f64::NAN
     }
-}
-
-fn low_byte(w: u64) -> u8
-    ensures { result ≡ w % 256 }
-{
-    (w % 256) as u8
-}
-
-// The low four bytes of w, from i on.
-fn put_four(b: &mut [u8], i: usize, w: u64)
-    requires { i + 4 ≤ length b.old }
-    ensures { b.new ≡ four_put b.old i w }
-{
-    b[i] = low_byte(w);
-    b[i + 1] = low_byte(w / 0x100);
-    b[i + 2] = low_byte(w / 0x1_0000);
-    b[i + 3] = low_byte(w / 0x100_0000);
 }
 
 fn put_word(b: &mut [u8], i: usize, w: u64)
     requires { i + 8 ≤ length b.old }
     ensures { b.new ≡ word_put b.old i w }
 {
-    put_four(b, i, w);
-    put_four(b, i + 4, w / 0x1_0000_0000);
+    b[i..i + 8].copy_from_slice(&w.to_le_bytes());
 }
 
 // x at place k of b, where there is one.

@@ -3,43 +3,38 @@ ghost use Rattle.std.specs.Prelude.{◌≡◌, length};
 ghost use Rattle.loops.specs.Upto.{filled};
 ghost use Rattle.calls.specs.Marks.{mark_at};
 
-use crate::calling;
-use crate::calling::Told;
-use words::bytes::{low_byte, word};
+use crate::calling::{Told, call, leaf};
+use crate::entry::Entry;
+use byte_lists::doubles::pattern_at;
 
 // What the output holds before a call: something else at each place, so that bytes moved within it are seen as well.
+#[tactic(auto, using(loops::proofs::Filling::fill_none, loops::proofs::Filling::fill_turn), unfolding(crate::specs::Marks::mark_at))]
 pub fn mark(out: &mut [u8])
     ensures { out.new ≡ filled mark_at (length out.old) out.old }
 {
-    let mut sum = 0;
-    let mut i = 0;
-    while i < out.len() {
-        out[i] = low_byte(sum / 128);
-        sum = std::num::wrapping_add_u64(sum, 0x9e37_79b9);
-        i += 1;
+    for i in 0..out.len() {
+        out[i] = ((i as u64).wrapping_mul(0x9e37_79b9) / 128 % 256) as u8;
     }
 }
 
 // Five numbers: what the call must return, and the lent numbers after it.
-fn is_told(told: Told, expected: &[u8]) -> bool {
-    if told.number != word(expected, 0) {
-        return false;
+fn told(expected: &[u8]) -> Told {
+    Told {
+        number: pattern_at(expected, 0),
+        first: pattern_at(expected, 1),
+        second: pattern_at(expected, 2),
+        third: pattern_at(expected, 3),
+        fourth: pattern_at(expected, 4),
     }
-    if told.first != word(expected, 1) {
-        return false;
-    }
-    if told.second != word(expected, 2) {
-        return false;
-    }
-    told.third == word(expected, 3) && told.fourth == word(expected, 4)
 }
 
-// Of a leaf the first number alone, its answer, is expected. What the call leaves in the output is the caller's to compare.
+// A number that is no entry's is taken for the last one's. Of a leaf the first number alone, its answer, is expected.
+// What the call leaves in the output is the caller's to compare.
 pub fn agrees(case: &[u8], expected: &[u8], out: &mut [u8]) -> bool {
     mark(out);
-    if word(case, 1) < 8 {
-        return calling::leaf(case) == word(expected, 0);
+    let entry = Entry::try_from(pattern_at(case, 1)).unwrap_or(Entry::CutFileSection);
+    match leaf(entry, case) {
+        Some(answer) => answer == pattern_at(expected, 0),
+        None => call(entry, case, out) == told(expected),
     }
-    let told = calling::call(case, out);
-    is_told(told, expected)
 }

@@ -2,27 +2,28 @@
 // that @ names.
 use crate::letters;
 use crate::numerals::number;
-use words::bytes::{low_byte, put, word};
-use words::text::{Run, first_byte, part_of, run_end};
+use byte_lists::doubles::pattern_at;
+use words::bytes::put;
+use words::text::{first_byte, part_of, spaces_end, word_end};
 
 // What stands before the first letter.
-pub(crate) const HEAD: u64 = 0;
+pub(crate) const HEAD: u8 = 0;
 
 // The letter that was read last, and the place of the next number.
 #[derive(Clone, Copy)]
 struct Spot {
-    letter: u64,
+    letter: u8,
     place: u64,
 }
 
 // A file's numbers take a byte each.
 fn put_byte(b: &mut [u8], k: usize, n: u64) {
-    if k < b.len() {
-        b[k] = low_byte(n);
+    if let Some(byte) = b.get_mut(k) {
+        *byte = (n % 256) as u8;
     }
 }
 
-fn lay(b: &mut [u8], list: u64, k: usize, n: u64) {
+fn lay(b: &mut [u8], list: u8, k: usize, n: u64) {
     if list == letters::FILE {
         put_byte(b, k, n);
     } else {
@@ -31,67 +32,57 @@ fn lay(b: &mut [u8], list: u64, k: usize, n: u64) {
 }
 
 // A number goes to the next place of the list that its letter stands for.
-fn enter(b: &mut [u8], list: u64, w: &[u8], spot: Spot) {
-    if first_byte(w) <= b'9' {
-        if spot.letter == list {
-            lay(b, list, spot.place as usize, number(w));
-        }
+fn enter(b: &mut [u8], list: u8, w: &[u8], spot: Spot) {
+    if first_byte(w) <= b'9' && spot.letter == list {
+        lay(b, list, spot.place as usize, number(w));
     }
 }
 
 // A letter begins its list; @ names a place of it.
 fn after(w: &[u8], spot: Spot) -> Spot {
-    let c = first_byte(w);
-    let letter = spot.letter;
-    if c <= b'9' {
-        return Spot {
-            letter,
-            place: std::num::wrapping_add_u64(spot.place, 1),
-        };
-    }
-    if c == b'@' {
-        return Spot {
-            letter,
+    match first_byte(w) {
+        0..=b'9' => Spot {
+            place: spot.place.wrapping_add(1),
+            ..spot
+        },
+        b'@' => Spot {
             place: number(w),
-        };
-    }
-    Spot {
-        letter: c as u64,
-        place: 0,
+            ..spot
+        },
+        letter => Spot { letter, place: 0 },
     }
 }
 
-pub(crate) fn apply(b: &mut [u8], list: u64, line: &[u8]) {
+pub(crate) fn apply(b: &mut [u8], list: u8, line: &[u8]) {
     let mut spot = Spot {
         letter: HEAD,
         place: 0,
     };
-    let mut i = run_end(line, 0, Run::Space);
+    let mut i = spaces_end(line, 0);
     while i < line.len() {
-        let e = run_end(line, i, Run::Word);
+        let e = word_end(line, i);
         let w = part_of(line, i, e);
         enter(b, list, w, spot);
         if line.len() <= e {
             return;
         }
         spot = after(w, spot);
-        i = run_end(line, e + 1, Run::Space);
+        i = spaces_end(line, e + 1);
     }
 }
 
 fn bytes(doubles: u64, more: u64) -> usize {
-    if doubles <= 65537 {
-        if more < 8 {
-            return (8 * doubles + more) as usize;
-        }
+    if doubles <= 65537 && more < 8 {
+        (8 * doubles + more) as usize
+    } else {
+        0
     }
-    0
 }
 
 // A list's length in bytes.
-pub(crate) fn bytes_of(line: &[u8], list: u64, usual: u64) -> usize {
+pub(crate) fn bytes_of(line: &[u8], list: u8, usual: u64) -> usize {
     let mut b = [0; 16];
     put(&mut b, 0, usual);
     apply(&mut b, list, line);
-    bytes(word(&b, 0), word(&b, 1))
+    bytes(pattern_at(&b, 0), pattern_at(&b, 1))
 }

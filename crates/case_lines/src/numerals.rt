@@ -12,23 +12,25 @@ struct Partial {
 
 fn digit(c: u8) -> u64 {
     match c {
-        48..=57 => c as u64 - 48,
-        97..=102 => c as u64 - 87,
+        b'0'..=b'9' => (c - b'0') as u64,
+        b'a'..=b'f' => (c - b'a') as u64 + 10,
         _ => 0,
     }
 }
 
 // No number of a line is so long that digits are lost.
 fn shifted(value: u64, hex: bool) -> u64 {
+    let base = if hex { 16 } else { 10 };
     if value < 0x1000_0000_0000_0000 {
-        return if hex { 16 * value } else { 10 * value };
+        base * value
+    } else {
+        0
     }
-    0
 }
 
 fn grown(n: Partial, c: u8) -> Partial {
     Partial {
-        value: std::num::wrapping_add_u64(shifted(n.value, n.hex), digit(c)),
+        value: shifted(n.value, n.hex).wrapping_add(digit(c)),
         hex: n.hex,
         unit: shifted(n.unit, false),
     }
@@ -51,17 +53,12 @@ fn read(n: Partial, c: u8) -> Partial {
 }
 
 fn digits(word: &[u8]) -> Partial {
-    let mut n = Partial {
+    let none = Partial {
         value: 0,
         hex: false,
         unit: 0,
     };
-    let mut i = 0;
-    while i < word.len() {
-        n = read(n, word[i]);
-        i += 1;
-    }
-    n
+    word.iter().fold(none, |n, c| read(n, *c))
 }
 
 // Decimal digits; hexadecimal ones after a #; with a point the double's pattern, with a sign before it the negative one's.
@@ -71,8 +68,5 @@ pub(crate) fn number(word: &[u8]) -> u64 {
         return n.value;
     }
     let x = std::num::nearest_u64_to_f64(n.value) / std::num::nearest_u64_to_f64(n.unit);
-    if first_byte(word) == b'-' {
-        return pattern_of(-x);
-    }
-    pattern_of(x)
+    pattern_of(if first_byte(word) == b'-' { -x } else { x })
 }

@@ -1,7 +1,7 @@
 // The cases: a line for each, its name and then what src/letters.rt says. A line that does not begin with a small letter is a remark.
 use crate::case::holds;
 use std::io;
-use words::text::{Run, first_byte, part_of, run_end};
+use words::text::{first_byte, word_end};
 
 fn tell(rt: &impl Print, name: &[u8], same: bool) -> io::Result<()> {
     rt.write_all(name)?;
@@ -17,22 +17,18 @@ fn case(rt: &impl Print, line: &[u8]) -> io::Result<u64> {
     if first_byte(line) < b'a' {
         return Ok(0);
     }
-    let e = run_end(line, 0, Run::Word);
-    tell(rt, part_of(line, 0, e), holds(part_of(line, e, line.len())))?;
+    let (name, rest) = line.split_at(word_end(line, 0));
+    tell(rt, name, holds(rest))?;
     Ok(1)
 }
 
-// How many there were.
-pub(crate) fn run(rt: &impl Print, t: &[u8]) -> io::Result<u64> {
-    let mut n = 0;
-    let mut i = 0;
-    while i < t.len() {
-        let e = run_end(t, i, Run::Line);
-        if t.len() <= e {
-            return Ok(n);
+// How many there were. What stands behind the last line's end is no line.
+pub(crate) fn run(rt: &impl Print, text: &[u8]) -> io::Result<u64> {
+    let mut cases = 0u64;
+    for piece in text.split_inclusive(|c| *c == b'\n') {
+        if let Some((b'\n', line)) = piece.split_last() {
+            cases = cases.wrapping_add(case(rt, line)?);
         }
-        n = std::num::wrapping_add_u64(n, case(rt, part_of(t, i, e))?);
-        i = e + 1;
     }
-    Ok(n)
+    Ok(cases)
 }

@@ -1,7 +1,7 @@
 // The usual call, which a line changes.
 use crate::letters;
 use crate::lists::apply;
-use calls::calling;
+use calls::calling::BEFORE;
 use patterns::pattern::pattern_of;
 use words::bytes::put;
 
@@ -35,8 +35,9 @@ fn station(k: u64) -> f64 {
     }
 }
 
-// t0 0 and dt 1; rows and a file's bytes 0; s 0, 1, 2, ..; a 0, 4, 0, 4, ..; t 0, 1, 2, ..; x 0, 1/32, 2/32, ..: so b is 2, -2, 2, .., and the times from 0 on are t.
-fn double(list: u64, k: u64) -> f64 {
+// t0 0 and dt 1; rows and a file's bytes 0; s 0, 1, 2, ..; a 0, 4, 0, 4, ..; t 0, 1, 2, ..; x 0, 1/32, 2/32, ..: so b is 2, -2, 2, ..,
+// and the times from 0 on are t.
+fn double(list: u8, k: u64) -> f64 {
     match list {
         letters::PASSED => if k == 1 { 1.0 } else { 0.0 },
         letters::REQUEST => request(k),
@@ -52,33 +53,28 @@ fn double(list: u64, k: u64) -> f64 {
 // As they are before a call.
 fn lent(k: u64) -> u64 {
     match k {
-        0 => calling::FIRST,
-        1 => calling::SECOND,
-        2 => calling::THIRD,
-        _ => calling::FOURTH,
+        0 => BEFORE.first,
+        1 => BEFORE.second,
+        2 => BEFORE.third,
+        _ => BEFORE.fourth,
     }
 }
 
-fn usual(list: u64, k: u64) -> u64 {
-    if list == letters::LENT {
-        return lent(k);
+fn usual(list: u8, k: u64) -> u64 {
+    match list {
+        letters::LENT => lent(k),
+        letters::WALK if k == 7 => 1,
+        _ => pattern_of(double(list, k)),
     }
-    if list == letters::WALK && k == 7 {
-        return 1;
-    }
-    pattern_of(double(list, k))
 }
 
-fn fill(b: &mut [u8], list: u64) {
-    let n = b.len() / 8;
-    let mut k = 0;
-    while k < n {
+fn fill(b: &mut [u8], list: u8) {
+    for k in 0..b.len() / 8 {
         put(b, k, usual(list, k as u64));
-        k += 1;
     }
 }
 
-pub(crate) fn prepare(b: &mut [u8], list: u64, line: &[u8]) {
+pub(crate) fn prepare(b: &mut [u8], list: u8, line: &[u8]) {
     fill(b, list);
     apply(b, list, line);
 }

@@ -1,8 +1,5 @@
 -- A speed that passes shows that no row is refused.
-use mathlib.Core.Path.{◌≡◌, refl}
-use mathlib.Core.Bool.{Bool, true, false, ◌&&◌, ◌||◌}
-use mathlib.Core.List.{List, [], ◌∷◌}
-use lib.Dec.{T}
+use Rattle.std.proofs.Common.{◌≡◌, refl, Bool, true, false, ◌&&◌, ◌||◌, List, [], ◌∷◌, T}
 use lib.Ieee.{Float}
 use lib.Ieee.Fits.{and_r}
 use Rattle.rows.specs.Rows.{Row, any, all}

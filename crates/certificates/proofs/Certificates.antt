@@ -1,9 +1,5 @@
 -- The certificate is what one row after another makes of it, whatever the rows are: a row that is refused, with 5 or 6, admits no speed.
-use mathlib.Core.Path.{◌≡◌, refl, sym, ap, ap₂, subst, ◌∙◌}
-use mathlib.Core.Bool.{Bool, true, false, not, ◌&&◌, ◌||◌, cond}
-use mathlib.Core.Logic.{◌⊎◌, inl, inr}
-use mathlib.Core.List.{List, [], ◌∷◌}
-use lib.Dec.{T}
+use Rattle.std.proofs.Common.{◌≡◌, refl, sym, ap, ap₂, subst, ◌∙◌, Bool, true, false, not, ◌&&◌, ◌||◌, cond, ◌⊎◌, inl, inr, List, [], ◌∷◌, T, Some, None, Ok, Err}
 use lib.Ieee.{Float, binary64, lt, le, of_bits}
 use lib.Ieee.Fits.{and_l, and_r}
 use lib.Ieee.Scale.{finite}
@@ -13,20 +9,15 @@ use Rattle.number.proofs.Order.{holds, fails, number, finite_number, lt_or_le, l
 use Rattle.number.proofs.Monotone.{add_finite, sub_finite, mul_finite}
 use Rattle.rows.specs.Rows.{Row, fold, all}
 use Rattle.rows.specs.Row.{norm, empty, inv, raw_tol, four_finite, numbers_finite, normalized, raw, raw_normalized, all_within, admits, unfit, unmeetable}
-use Rattle.rows.specs.Reading.{block_of, reading_of}
-use Rattle.rows.specs.Judging.{judged}
-use Rattle.rows.specs.declared.reading.Reading.{Reading}
-use Rattle.rows.specs.declared.reading.Reading.TheVariants.{Unfit, Unmeetable, Silent, Says}
-use Rattle.rows.specs.declared.judging.Judged.TheVariants.{Broken, Fits}
+use Rattle.rows.specs.Reading.{Reading, block_of, reading_of}
+use Rattle.rows.specs.Judging.{residuals_of, judged}
 use Rattle.rows.proofs.Within.{one_truth, within_all}
 use Rattle.limits.specs.Bounds.{span_of}
 use Rattle.limits.specs.declared.request.Request.{Request}
 use Rattle.limits.specs.declared.projection.Span.{Span}
-use Rattle.certificates.specs.Certificate.{between, passes, worse_normalized, worse_raw, certificate}
-use Rattle.certificates.specs.RowByRow.{inside, worse, counted, counted_reading, counted_row}
+use Rattle.certificates.specs.Certificate.{between, passes, worse_normalized, worse_raw, figures, Certificate, certificate}
+use Rattle.certificates.specs.RowByRow.{inside, worse, worsened, counted, counted_reading, counted_row}
 use Rattle.certificates.proofs.Worst.{from_zero, worse_is, worse_from, zero_from}
-use Rattle.certificates.specs.declared.certificate.Certificate.{Certificate}
-use Rattle.certificates.specs.declared.certificate.Certificate.TheVariants.{Passed, Failed}
 
 -- ---- what is known of a row that is not refused
 
@@ -140,9 +131,9 @@ module _ (tol a x : Float) (w : Row) where
   -- ---- one row more
 
   abbrev next : Float → Float → Certificate
-  next n r = cond (admits tol a x w) (Passed (worse_normalized a x n w) (worse_raw a x r w)) Failed
+  next n r = cond (admits tol a x w) (Some (figures (worse_normalized a x n w) (worse_raw a x r w))) None
 
-  broken : (n r : Float) → admits tol a x w ≡ false → Failed ≡ next n r
+  broken : (n r : Float) → admits tol a x w ≡ false → None ≡ next n r
   broken n r h = rw h
 
   module _ (n r : Float) (N : T (from_zero n)) (R : T (from_zero r)) where
@@ -153,15 +144,15 @@ module _ (tol a x : Float) (w : Row) where
     worst_is =
         worse_is (worse n (normalized a x w)) (raw_normalized a x w) once ∙ ap (λ (y : Float). maximum y (raw_normalized a x w)) (worse_is n (normalized a x w) N)
 
-    says_counted : unfit tol w ≡ false → empty w ≡ false → counted (Passed n r) (judged tol x (block_of tol a w)) ≡ next n r
-    unfolding admits judged counted block_of worse_normalized worse_raw
+    says_counted : unfit tol w ≡ false → empty w ≡ false → counted (Some (figures n r)) (judged tol x (block_of tol a w)) ≡ next n r
+    unfolding admits judged counted worsened block_of worse_normalized worse_raw
     says_counted u e =
         let t = fit_tolerance tol w u e in
         rw (fit_numbers tol w u, e, within_all tol (raw_tol tol w) (normalized a x w) (raw a x w) (norm w) (mul_finite binary64 tol _ t).0 t) (go all_are)
       where
-        go : (b : Bool) → counted (Passed n r) (cond b (Fits (normalized a x w) (raw_normalized a x w) (raw a x w)) Broken)
-            ≡ cond b (Passed (maximum (maximum n (normalized a x w)) (raw_normalized a x w)) (maximum r (raw a x w))) Failed
-        go true = ap₂ Passed worst_is (worse_is r (raw a x w) R)
+        go : (b : Bool) → counted (Some (figures n r)) (cond b (Some (residuals_of x (block_of tol a w))) None)
+            ≡ cond b (Some (figures (maximum (maximum n (normalized a x w)) (raw_normalized a x w)) (maximum r (raw a x w)))) None
+        go true = ap₂ (λ (n r : Float). Some (figures n r)) worst_is (worse_is r (raw a x w) R)
         go false = refl
 
     -- the figures after a row start no lower
@@ -181,16 +172,16 @@ module _ (tol a x : Float) (w : Row) where
         go true = R
         go false = subst (λ (y : Float). T (from_zero y)) (worse_is r (raw a x w) R) (worse_from r (raw a x w) R)
 
-  silent_counted : (n r : Float) → unfit tol w ≡ false → unmeetable w ≡ false → empty w ≡ true → Passed n r ≡ next n r
+  silent_counted : (n r : Float) → unfit tol w ≡ false → unmeetable w ≡ false → empty w ≡ true → Some (figures n r) ≡ next n r
   unfolding worse_normalized worse_raw
   silent_counted n r u m e = rw (silent_admits u m e, e)
 
-  row_counted : (n r : Float) → T (from_zero n) → T (from_zero r) → counted_row tol a x (Passed n r) w ≡ next n r
+  row_counted : (n r : Float) → T (from_zero n) → T (from_zero r) → counted_row tol a x (Some (figures n r)) w ≡ next n r
   unfolding reading_of counted_reading
   row_counted n r N R = go (unfit tol w) refl (unmeetable w) refl (empty w) refl
     where
       go : (u : Bool) → unfit tol w ≡ u → (m : Bool) → unmeetable w ≡ m → (e : Bool) → empty w ≡ e
-          → counted_reading tol x (Passed n r) (cond u Unfit (cond m Unmeetable (cond e Silent (Says (block_of tol a w))))) ≡ next n r
+          → counted_reading tol x (Some (figures n r)) (cond u (Err 5) (cond m (Err 6) (cond e (Ok None) (Ok (Some (block_of tol a w)))))) ≡ next n r
       go true u m h e k = broken n r (unfit_breaks u)
       go false u true h e k = broken n r (unmeetable_breaks h)
       go false u false h true k = silent_counted n r u h k
@@ -199,33 +190,33 @@ module _ (tol a x : Float) (w : Row) where
 -- ---- all rows
 
 module _ (tol a x : Float) where
-  reading_fails : (r : Reading) → counted_reading tol x Failed r ≡ Failed
+  reading_fails : (r : Reading) → counted_reading tol x None r ≡ None
   unfolding counted_reading counted
-  reading_fails Unfit = refl
-  reading_fails Unmeetable = refl
-  reading_fails Silent = refl
-  reading_fails (Says b) = refl
+  reading_fails (Err n) = refl
+  reading_fails (Ok None) = refl
+  reading_fails (Ok (Some b)) = refl
 
-  pub failed_stays : (rows : List Row) → fold (counted_row tol a x) Failed rows ≡ Failed
+  pub failed_stays : (rows : List Row) → fold (counted_row tol a x) None rows ≡ None
   unfolding fold
   failed_stays [] = refl
   failed_stays (w ∷ rows) = ap (λ (c : Certificate). fold (counted_row tol a x) c rows) (reading_fails (reading_of tol a w)) ∙ failed_stays rows
 
   abbrev verdict : List Row → Float → Float → Certificate
-  verdict rows n r = cond (all (admits tol a x) rows) (Passed (fold (worse_normalized a x) n rows) (fold (worse_raw a x) r rows)) Failed
+  verdict rows n r = cond (all (admits tol a x) rows) (Some (figures (fold (worse_normalized a x) n rows) (fold (worse_raw a x) r rows))) None
 
-  rows_counted : (rows : List Row) (n r : Float) → T (from_zero n) → T (from_zero r) → fold (counted_row tol a x) (Passed n r) rows ≡ verdict rows n r
+  rows_counted : (rows : List Row) (n r : Float) → T (from_zero n) → T (from_zero r) → fold (counted_row tol a x) (Some (figures n r)) rows ≡ verdict rows n r
   unfolding fold all
   rows_counted [] n r N R = refl
   rows_counted (w ∷ rows) n r N R =
       ap (λ (c : Certificate). fold (counted_row tol a x) c rows) (row_counted tol a x w n r N R)
       ∙ go (admits tol a x w) (rows_counted rows (worse_normalized a x n w) (worse_raw a x r w) (normalized_from tol a x w n r N R) (raw_from tol a x w n r N R))
     where
-      go : (b : Bool) → fold (counted_row tol a x) (Passed (worse_normalized a x n w) (worse_raw a x r w)) rows ≡ verdict rows (worse_normalized a x n w) (worse_raw a x r w)
-          → fold (counted_row tol a x) (cond b (Passed (worse_normalized a x n w) (worse_raw a x r w)) Failed) rows
+      go : (b : Bool) → fold (counted_row tol a x) (Some (figures (worse_normalized a x n w) (worse_raw a x r w))) rows
+          ≡ verdict rows (worse_normalized a x n w) (worse_raw a x r w)
+          → fold (counted_row tol a x) (cond b (Some (figures (worse_normalized a x n w) (worse_raw a x r w))) None) rows
           ≡ cond (b && all (admits tol a x) rows)
-          (Passed (fold (worse_normalized a x) (worse_normalized a x n w) rows) (fold (worse_raw a x) (worse_raw a x r w) rows))
-          Failed
+          (Some (figures (fold (worse_normalized a x) (worse_normalized a x n w) rows) (fold (worse_raw a x) (worse_raw a x r w) rows)))
+          None
       go true h = h
       go false h = failed_stays rows
 
@@ -236,12 +227,12 @@ inside_bounds q s x e = rw e
 
 -- the certificate, by its rows one after another
 pub certificate_counted : (q : Request) (rows : List Row) (x : Float)
-    → cond (between q x) (fold (counted_row q.tolerances.feas q.a_prev x) (Passed zero zero) rows) Failed ≡ certificate q rows x
+    → cond (between q x) (fold (counted_row q.tolerances.feas q.a_prev x) (Some (figures zero zero)) rows) None ≡ certificate q rows x
 unfolding certificate passes
 certificate_counted q rows x = go (between q x) (rows_counted q.tolerances.feas q.a_prev x rows zero zero zero_from zero_from)
   where
     go : (b : Bool) {c : Certificate} → c ≡ verdict q.tolerances.feas q.a_prev x rows zero zero
-        → cond b c Failed ≡ cond (b && all (admits q.tolerances.feas q.a_prev x) rows)
-        (Passed (fold (worse_normalized q.a_prev x) zero rows) (fold (worse_raw q.a_prev x) zero rows)) Failed
+        → cond b c None ≡ cond (b && all (admits q.tolerances.feas q.a_prev x) rows)
+        (Some (figures (fold (worse_normalized q.a_prev x) zero rows) (fold (worse_raw q.a_prev x) zero rows))) None
     go true h = h
     go false h = refl

@@ -1,7 +1,5 @@
 -- A worst figure starts at +0 and only grows, so that one comparison is the maximum.
-use mathlib.Core.Path.{◌≡◌, refl}
-use mathlib.Core.Bool.{Bool, true, false, not, ◌&&◌, ◌||◌, cond}
-use lib.Dec.{T}
+use Rattle.std.proofs.Common.{◌≡◌, refl, Bool, true, false, not, ◌&&◌, ◌||◌, cond, T}
 use lib.Ieee.{Float, nan, inf, fin, lt, eq, is_nan, of_bits}
 use Rattle.number.specs.Leaves.{negative, counts_below, maximum}
 use Rattle.number.proofs.Order.{holds, number, signed, below_zero, lt_number, lt_not_le}

@@ -1,5 +1,5 @@
 -- The certificate for x: the verdict, and the worst figures, which are separate definitions over the same rows.
-use Rattle.std.specs.Prelude.{Bool, ◌&&◌, cond, List, Float}
+use Rattle.std.specs.Prelude.{Bool, ◌&&◌, cond, Option, Some, None, List, Float}
 use Rattle.std.specs.Float.Ieee.{le}
 use Rattle.std.specs.Float.Ieee.Scale.{finite}
 use Rattle.number.specs.Leaves.{maximum}
@@ -8,8 +8,7 @@ use Rattle.rows.specs.Rows.{Row, fold, all}
 use Rattle.rows.specs.Row.{empty, normalized, raw, raw_normalized, admits}
 use Rattle.limits.specs.Bounds.{lower, upper}
 use Rattle.limits.specs.declared.request.Request.{Request}
-use Rattle.certificates.specs.declared.certificate.Certificate.{Certificate}
-use Rattle.certificates.specs.declared.certificate.Certificate.TheVariants.{Passed, Failed}
+use Rattle.certificates.specs.declared.certificate.Figures.{Figures}
 
 -- "lower ≤ x ≤ upper", x finite besides, and every row admits x
 unfoldable pub between : Request → Float → Bool
@@ -31,5 +30,12 @@ worst_normalized q rows x = fold (worse_normalized q.a_prev x) zero rows
 abbrev pub worst_raw : Request → List Row → Float → Float
 worst_raw q rows x = fold (worse_raw q.a_prev x) zero rows
 
+abbrev pub figures : Float → Float → Figures
+figures n r = record { worst_normalized = n; worst_raw = r }
+
+-- none where the speed does not pass
+abbrev pub Certificate : Type 0
+Certificate = Option Figures
+
 unfoldable pub certificate : Request → List Row → Float → Certificate
-certificate q rows x = cond (passes q rows x) (Passed (worst_normalized q rows x) (worst_raw q rows x)) Failed
+certificate q rows x = cond (passes q rows x) (Some (figures (worst_normalized q rows x) (worst_raw q rows x))) None

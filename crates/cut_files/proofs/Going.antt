@@ -1,85 +1,58 @@
--- Going from section to section: what is left of the file has the answer that the whole has.
-use Prim.Native.Nat.{ℕ, zero, suc, ◌+◌, ◌≤◌, ◌<◌}
-use mathlib.Core.Path.{◌≡◌, refl, sym, ap, ◌∙◌}
-use mathlib.Core.List.{List, [], ◌∷◌}
-use native.Mathlib.Omega.{arith}
-use borrow.Author.Tests.{lt-ltb, le-ltb, eq-eqb, ne_eqb}
-use lib.ListN.{length}
+-- Going from section to section: what is left of the file begins with the section that is read, and goes on behind it.
+use Rattle.std.proofs.Common.{ℕ, zero, suc, ◌+◌, ◌-◌, ◌≤◌, ◌<◌, ◌≡◌, refl, sym, ap, subst, ◌∙◌, cond, List, [], ◌∷◌, length, Result, Ok, Err, ltb, arith}
+use borrow.Author.Tests.{lt-ltb, le-ltb}
 use Rattle.sections.specs.Section.{section_at}
-use Rattle.cut_files.specs.File.{followed, sections_from, sections_of, fault_in, among}
 use Rattle.sections.specs.declared.Section.{Section}
-use Rattle.sections.specs.declared.Section.TheVariants.{Placed, Refused}
+use Rattle.sections.proofs.Sectioned.{Lies, Sectioned, section_found}
+use Rattle.cut_files.specs.File.{followed, sections_from, sections_left, sections_of}
 
-next_sections : (l : List ℕ) (n at previous : ℕ) → at < length l → sections_from l (suc n) at previous ≡ followed (section_at l at previous) (sections_from l n)
-unfolding sections_from
-next_sections l n at previous h = simp (lt-ltb at (length l) h)
-
-no_sections : (l : List ℕ) (n at previous : ℕ) → length l ≤ at → sections_from l n at previous ≡ []
-unfolding sections_from
-no_sections l zero at previous h = refl
-no_sections l (suc n) at previous h = simp (le-ltb at (length l) h)
-
-module _ {A : Type 0} (f : List Section → A) (l : List ℕ) where
-  -- at a place, after a kind: so many sections at most are left
-  pub record Going (at previous : ℕ) : Type 0 where
-    pub left : ℕ
-    pub enough : length l ≤ at + left
-    pub same : f (sections_from l left at previous) ≡ f (sections_of l)
-
-  pub going_starts : Going 0 0
-  unfolding sections_of
-  going_starts = record { left = length l; enough = omega arith; same = refl }
-
-  pub going_ends : (at previous : ℕ) → length l ≤ at → Going at previous → f [] ≡ f (sections_of l)
-  going_ends at previous h w = ap f (sym (no_sections l w.left at previous h)) ∙ w.same
-
-  -- a section that changes nothing is passed
-  pub going_on : (at previous kind start end : ℕ) → at < length l → Placed kind start end ≡ section_at l at previous → at < end
-      → ((later : List Section) → f (Placed kind start end ∷ later) ≡ f later) → Going at previous → Going end kind
-  going_on at previous kind start end h s g u w = go w.left w.enough w.same
+module _ (l : List ℕ) where
+  -- so many sections at most that there are no more
+  enough : (n m at previous : ℕ) → length l ≤ at + n → length l ≤ at + m → sections_from l n at previous ≡ sections_from l m at previous
+  unfolding sections_from
+  enough zero zero at previous h g = refl
+  enough zero (suc m) at previous h g = simp (le-ltb at (length l) (omega arith))
+  enough (suc n) zero at previous h g = simp (le-ltb at (length l) (omega arith))
+  enough (suc n) (suc m) at previous h g =
+      ap (λ (s : List (Result Section ℕ)). cond (ltb at (length l)) s [])
+      (on (section_at l at previous) (section_found l at previous) (λ s f. enough n m s.end s.kind (omega (arith, f.further)) (omega (arith, f.further))))
     where
-      go : (n : ℕ) → length l ≤ at + n → f (sections_from l n at previous) ≡ f (sections_of l) → Going end kind
-      go zero e q = absurd (omega arith)
-      go (suc n) e q = record {
-        left = n;
-        enough = omega arith;
-        same = sym (u (sections_from l n end kind)) ∙ ap (λ (s : Section). f (followed s (sections_from l n))) s ∙ ap f (sym (next_sections l n at previous h)) ∙ q;
-      }
+      on : (s : Result Section ℕ) → Sectioned l at s
+          → ((s : Section) → Lies l at s.kind s.start s.end → sections_from l n s.end s.kind ≡ sections_from l m s.end s.kind)
+          → followed s (sections_from l n) ≡ followed s (sections_from l m)
+      on (Ok s) f later = ap (λ t. Ok s ∷ t) (later s f)
+      on (Err _) f later = refl
 
-  -- one that decides is the last
-  pub going_decides : (at previous : ℕ) (s : Section) (a : A) → at < length l → s ≡ section_at l at previous
-      → ((later : ℕ → ℕ → List Section) → f (followed s later) ≡ a) → Going at previous → a ≡ f (sections_of l)
-  going_decides at previous s a h e u w = go w.left w.enough w.same
-    where
-      go : (n : ℕ) → length l ≤ at + n → f (sections_from l n at previous) ≡ f (sections_of l) → a ≡ f (sections_of l)
-      go zero g q = absurd (omega arith)
-      go (suc n) g q = sym (u (sections_from l n)) ∙ ap (λ (s : Section). f (followed s (sections_from l n))) e ∙ ap f (sym (next_sections l n at previous h)) ∙ q
+  pub left_all : sections_left l 0 0 ≡ sections_of l
+  unfolding sections_left sections_of
+  left_all =
+      let e : length l - 0 ≡ length l = omega arith in
+      rw e
 
--- ---- the two answers
-pub fault_passes : (kind start end : ℕ) (later : List Section) → fault_in (Placed kind start end ∷ later) ≡ fault_in later
-unfolding fault_in
-fault_passes kind start end later = refl
+  pub left_none : (at previous : ℕ) → length l ≤ at → sections_left l at previous ≡ []
+  unfolding sections_left sections_from
+  left_none at previous h =
+      let e : length l - at ≡ 0 = omega arith in
+      rw e
 
-pub fault_stops : (n : ℕ) (later : ℕ → ℕ → List Section) → fault_in (followed (Refused n) later) ≡ n
-unfolding fault_in
-fault_stops n later = refl
+  next_sections : (n at previous : ℕ) → at < length l → sections_from l (suc n) at previous ≡ followed (section_at l at previous) (sections_from l n)
+  unfolding sections_from
+  next_sections n at previous h = simp (lt-ltb at (length l) h)
 
-pub no_fault : 0 ≡ fault_in []
-unfolding fault_in
-no_fault = refl
+  left_on : (at previous : ℕ) → at < length l → sections_left l at previous ≡ followed (section_at l at previous) (sections_from l (length l - at - 1))
+  unfolding sections_left
+  left_on at previous h =
+      let e : length l - at ≡ suc (length l - at - 1) = omega arith in
+      ap (λ (n : ℕ). sections_from l n at previous) e ∙ next_sections (length l - at - 1) at previous h
 
-pub kind_passes : (asked kind start end : ℕ) → (kind ≡ asked → ⊥) → (later : List Section) → among asked (Placed kind start end ∷ later) ≡ among asked later
-unfolding among
-kind_passes asked kind start end h later = simp (ne_eqb kind asked h)
+  pub left_placed : (at previous : ℕ) (s : Section) → at < length l → Ok s ≡ section_at l at previous → sections_left l at previous ≡ Ok s ∷ sections_left l s.end s.kind
+  unfolding sections_left
+  left_placed at previous s h e =
+      let f : Sectioned l at (Ok s) = subst (Sectioned l at) (sym e) (section_found l at previous) in
+      left_on at previous h ∙ ap (λ (r : Result Section ℕ). followed r (sections_from l (length l - at - 1))) (sym e)
+      ∙ ap (λ later. Ok s ∷ later) (enough (length l - at - 1) (length l - s.end) s.end s.kind (omega (arith, f.further)) (omega arith))
 
-pub kind_met : (asked kind start end : ℕ) → kind ≡ asked → (later : ℕ → ℕ → List Section) → among asked (followed (Placed kind start end) later) ≡ Placed kind start end
-unfolding among
-kind_met asked kind start end h later = simp (eq-eqb kind asked h)
-
-pub kind_stops : (asked n : ℕ) (later : ℕ → ℕ → List Section) → among asked (followed (Refused n) later) ≡ Refused n
-unfolding among
-kind_stops asked n later = refl
-
-pub kind_absent : (asked : ℕ) → Refused 46 ≡ among asked []
-unfolding among
-kind_absent asked = refl
+  pub left_refused : (at previous n : ℕ) → at < length l → Err n ≡ section_at l at previous → sections_left l at previous ≡ Err n ∷ sections_left l (length l) previous
+  left_refused at previous n h e =
+      left_on at previous h ∙ ap (λ (r : Result Section ℕ). followed r (sections_from l (length l - at - 1))) (sym e)
+      ∙ ap (λ later. Err n ∷ later) (sym (left_none (length l) previous (omega arith)))

@@ -1,17 +1,17 @@
 -- What `hypot_of` is where a part is infinite or a NaN, or both are zero; and that neither the order nor the signs count.
 use mathlib.Core.Path.{◌≡◌, refl, sym, ap, ap₂, ◌∙◌}
-use Prim.Native.Nat.{ℕ, zero, suc, ◌*◌, ◌%◌, ◌^◌, ◌≤◌, ◌<◌}
+use Prim.Native.Nat.{ℕ, zero, suc, ◌*◌, ◌%◌, ◌^◌, ◌≤◌, ◌<◌, min, max}
 use native.Mathlib.Nat.{add_comm}
 use native.Mathlib.Omega.{arith}
-use mathlib.Core.Bool.{Bool, true, false, not, cond}
+use mathlib.Core.Bool.{Bool, true, false, not}
 use lib.Dec.{T, ltb, ltb→lt, nltb→le}
 use lib.Pow.{pow_pos}
-use lib.Ieee.{Float, nan, inf, fin, Format, binary64, div, fits, of_bits, to_bits, size, round}
+use lib.Ieee.{Float, nan, inf, fin, Format, binary64, fits, of_bits, to_bits, size, round}
 use lib.Ieee.Exact.{HasValue}
 use lib.Ieee.Bits.{of_bits-fits}
 use Rattle.number.specs.Units.{units_of}
 use Rattle.number.specs.Leaves.{absolute}
-use Rattle.number.proofs.ReadBack.{nan_pattern, zero_by_zero}
+use Rattle.number.proofs.ReadBack.{nan_pattern}
 use Rattle.number.proofs.Patterns.{pattern_of, sign_off, one_value, size_at, pattern_value, infinite_value}
 use Rattle.exact_roots.specs.Root.{root_in, isqrt, stick_root, root_nearest}
 use Rattle.exact_roots.specs.Hypot.{hypot_of}
@@ -62,20 +62,19 @@ pub code_unsigned : (x y : Float) → T (fits binary64 x) → T (fits binary64 y
 code_unsigned x y F G = ap₂ (hypot_of binary64) (without_sign x F) (without_sign y G) ∙ of_absolutes binary64 x y
 
 -- the larger pattern g and the smaller l of two
-module _ (a b g l : ℕ) (e : (g ≡ cond (ltb a b) b a) × (l ≡ cond (ltb a b) a b)) where
+module _ (a b g l : ℕ) (e : (g ≡ max a b) × (l ≡ min a b)) where
   pub sorted_in : a < 2 ^ 63 → b < 2 ^ 63 → (l ≤ g) × (g < 2 ^ 63)
-  sorted_in A B = go (ltb a b) (ltb→lt a b) (nltb→le a b) e.0 e.1
-    where
-      go : (t : Bool) → (T t → a < b) → (T (not t) → b ≤ a) → g ≡ cond t b a → l ≡ cond t a b → (l ≤ g) × (g < 2 ^ 63)
-      go true x y h i = let u = x tt in (omega arith, omega arith)
-      go false x y h i = let u = y tt in (omega arith, omega arith)
+  sorted_in A B = (omega (arith, e.0, e.1), omega (arith, e.0))
 
   pub code_sorted : hypot_of binary64 (of_bits binary64 g) (of_bits binary64 l) ≡ hypot_of binary64 (of_bits binary64 a) (of_bits binary64 b)
-  code_sorted = ap₂ (λ (x y : ℕ). hypot_of binary64 (of_bits binary64 x) (of_bits binary64 y)) e.0 e.1 ∙ go (ltb a b)
+  code_sorted = go (ltb a b) (ltb→lt a b) (nltb→le a b)
     where
-      go : (t : Bool) → hypot_of binary64 (of_bits binary64 (cond t b a)) (of_bits binary64 (cond t a b)) ≡ hypot_of binary64 (of_bits binary64 a) (of_bits binary64 b)
-      go true = swap binary64 (of_bits binary64 b) (of_bits binary64 a)
-      go false = refl
+      of : {g₁ l₁ : ℕ} → g ≡ g₁ → l ≡ l₁ → hypot_of binary64 (of_bits binary64 g) (of_bits binary64 l) ≡ hypot_of binary64 (of_bits binary64 g₁) (of_bits binary64 l₁)
+      of h i = ap₂ (λ (x y : ℕ). hypot_of binary64 (of_bits binary64 x) (of_bits binary64 y)) h i
+
+      go : (t : Bool) → (T t → a < b) → (T (not t) → b ≤ a) → hypot_of binary64 (of_bits binary64 g) (of_bits binary64 l) ≡ hypot_of binary64 (of_bits binary64 a) (of_bits binary64 b)
+      go true x y = let h = x tt in of (omega (arith, e.0)) (omega (arith, e.1)) ∙ swap binary64 (of_bits binary64 b) (of_bits binary64 a)
+      go false x y = let h = y tt in of (omega (arith, e.0)) (omega (arith, e.1))
 
 -- ---- an infinite part, then a NaN
 pub code_infinite : (a b : ℕ) → a ≡ 0x7ff0_0000_0000_0000 → of_bits binary64 0x7ff0_0000_0000_0000 ≡ hypot_of binary64 (of_bits binary64 a) (of_bits binary64 b)
@@ -93,11 +92,10 @@ nan_with (inf t) s a c h = absurd h
 nan_with (fin t n d) s a c h = refl
 
 pub code_nan : (a b : ℕ) → 0x7ff0_0000_0000_0000 ≤ a → (a ≡ 0x7ff0_0000_0000_0000 → ⊥) → (b ≡ 0x7ff0_0000_0000_0000 → ⊥) → a < 2 ^ 63 → b ≤ a
-    → div binary64 (of_bits binary64 0) (of_bits binary64 0) ≡ hypot_of binary64 (of_bits binary64 a) (of_bits binary64 b)
+    → nan ≡ hypot_of binary64 (of_bits binary64 a) (of_bits binary64 b)
 code_nan a b h n m l g =
     let i : ℕ = 0x7ff0_0000_0000_0000 in
-    zero_by_zero
-    ∙ sym (ap (λ (v : Float). hypot_of binary64 v (of_bits binary64 b)) (nan_pattern a (omega arith)) ∙ go (ltb b i) (ltb→lt b i) (nltb→le b i))
+    sym (ap (λ (v : Float). hypot_of binary64 v (of_bits binary64 b)) (nan_pattern a (omega arith)) ∙ go (ltb b i) (ltb→lt b i) (nltb→le b i))
   where
     both : hypot_of binary64 nan nan ≡ nan
     both = unfold hypot_of in refl

@@ -1,48 +1,44 @@
 -- The laws of cut files, from what is known of the section that is asked for.
-use Prim.Native.Nat.{ℕ, ◌+◌, ◌*◌, ◌-◌, ◌%◌, ◌^◌, ◌<◌, ◌≤◌}
-use mathlib.Core.Path.{◌≡◌, refl, sym, ap, subst, ◌∙◌}
-use mathlib.Core.Bool.{Bool, true, false}
-use mathlib.Core.List.{List}
-use native.Mathlib.Omega.{arith}
-use native.Mathlib.Nat.{pow-le-pow_right}
+use Rattle.std.proofs.Common.{ℕ, ◌+◌, ◌*◌, ◌-◌, ◌%◌, ◌^◌, ◌<◌, ◌≤◌, ◌≡◌, refl, sym, ap, subst, ◌∙◌, Bool, true, false, List, length, take, drop, length-drop}
+use Rattle.std.proofs.Common.{Result, Ok, Err, ltb, leb, eqb, arith}
+use Rattle.std.proofs.Math.Nat.{pow-le-pow_right}
 use borrow.Author.Tests.{ltb-true, ltb-false, leb-true, eqb-true}
-use lib.Dec.{ltb, leb, eqb}
-use lib.ListN.{length, take, drop, length-drop}
 use lib.Seq.{take-add, drop-drop, drop_at, length-take-le}
 use Rattle.refusals.specs.Most.{most_samples}
 use Rattle.refusals.specs.Refusals.{unless}
 use Rattle.refusals.proofs.Chains.{or_none, unless_none}
 use Rattle.groups.specs.Groups.{read_at}
 use Rattle.groups.specs.declared.Number.{Number}
-use Rattle.groups.specs.declared.Number.TheVariants.{Read, Cut, Faulty}
+use Rattle.groups.specs.declared.Fault.{Fault}
+use Rattle.groups.specs.declared.Fault.TheVariants.{Cut, Faulty}
 use Rattle.groups.proofs.Numbers.{grouped, grouped_least}
 use Rattle.payloads.specs.Payload.{form_of, count_number, payload_number}
 use Rattle.payloads.proofs.Forms.{each_form}
 use Rattle.payloads.specs.declared.form.Form.{Form}
-use Rattle.payloads.specs.declared.form.Form.TheVariants.{Listed, Grid, Refused as NoForm}
+use Rattle.payloads.specs.declared.form.Form.TheVariants.{Listed, Grid}
 use Rattle.cut_files.specs.File.{section_of}
 use Rattle.cut_files.specs.Part.{part, doubles_in}
 use Rattle.sections.specs.declared.Section.{Section}
-use Rattle.sections.specs.declared.Section.TheVariants.{Placed}
+use Rattle.sections.specs.Section.{placed}
 use Rattle.cut_files.proofs.Handed.{Handed, section_handed}
 use Rattle.file_laws.specs.FileLaws.{InTheFile, HasANumber, AllCounted, CountedDoubles}
 
-found : (l : List ℕ) (asked : ℕ) (s : Section) → section_of l asked ≡ s → Handed l asked s
+found : (l : List ℕ) (asked : ℕ) (s : Result Section ℕ) → section_of l asked ≡ s → Handed l asked s
 found l asked s e = subst (Handed l asked) e (section_handed l asked)
 
 pub in_the_file : InTheFile
 in_the_file l asked kind start end e =
-    let a = found l asked (Placed kind start end) e in
+    let a = found l asked (Ok (placed kind start end)) e in
     (a.kind_is, a.lies.ordered, a.lies.held)
 
 pub has_a_number : HasANumber
-has_a_number l asked number e = found l asked _ e
+has_a_number l asked n e = found l asked _ e
 
 -- ---- no limit is so high that a count takes more than three groups
-abbrev Small : Form → Type 0
-Small (Listed limit) = limit ≤ most_samples
-Small Grid = Unit {0}
-Small (NoForm n) = Unit {0}
+abbrev Small : Result Form ℕ → Type 0
+Small (Ok (Listed limit)) = limit ≤ most_samples
+Small (Ok Grid) = Unit {0}
+Small (Err n) = Unit {0}
 
 small : (kind : ℕ) → Small (form_of kind)
 small = each_form Small (omega arith) tt (omega arith) tt
@@ -64,9 +60,11 @@ behind l start k m h =
     ap (drop k) (take-add k m x) ∙ drop_at (take k x) (take m (drop k x)) k z ∙ ap (take m) (drop-drop k start l)
 
 module _ (l : List ℕ) (start end limit : ℕ) (ordered : start ≤ end) (held : end ≤ length l) (most : limit ≤ most_samples) where
-  counted : (n : Number) → read_at l start end ≡ n → count_number limit end n ≡ 0 → AllCounted l start end (doubles_in (take (end - start) (drop start l)))
+  counted : (n : Result Number Fault) → read_at l start end ≡ n → count_number limit end n ≡ 0 → AllCounted l start end (doubles_in (take (end - start) (drop start l)))
   unfolding count_number
-  counted (Read count next) e h =
+  counted (Ok n) e h =
+      let count = n.value in
+      let next = n.next in
       let g = grouped l start end count next e in
       let o = or_none (unless (leb count limit) 45) (unless (eqb (end - next) (8 * count)) 45) h in
       let c = leb-true count limit (unless_none (leb count limit) 45 (λ z. omega arith) o.0) in
@@ -87,15 +85,15 @@ module _ (l : List ℕ) (start end limit : ℕ) (ordered : start ≤ end) (held 
             ∙ behind l start (g.k + 1) (8 * count) (omega arith)
             ∙ ap (λ (i : ℕ). take (8 * count) (drop i l)) p;
       }
-  counted Cut e h = absurd (omega (arith, h))
-  counted Faulty e h = absurd (omega (arith, h))
+  counted (Err Cut) e h = absurd (omega (arith, h))
+  counted (Err Faulty) e h = absurd (omega (arith, h))
 
 pub counted_doubles : CountedDoubles
 unfolding payload_number
 counted_doubles l asked kind start end limit e f =
-    let a = found l asked (Placed kind start end) e in
+    let a = found l asked (Ok (placed kind start end)) e in
     let form = ap form_of a.kind_is ∙ f in
     let most = subst Small f (small asked) in
-    let sound : count_number limit end (read_at l start end) ≡ 0 = sym (ap (λ (x : Form). payload_number l x start end) form) ∙ a.lies.sound in
-    subst (λ (s : Section). AllCounted l start end (doubles_in (part l s))) (sym e)
+    let sound : count_number limit end (read_at l start end) ≡ 0 = sym (ap (λ (x : Result Form ℕ). payload_number l x start end) form) ∙ a.lies.sound in
+    subst (λ (s : Result Section ℕ). AllCounted l start end (doubles_in (part l s))) (sym e)
     (counted l start end limit a.lies.ordered a.lies.held most (read_at l start end) refl sound)

@@ -1,7 +1,7 @@
 -- Laws of the pass of t to s: the interval that is carried from a time to the next, and the counts of one time more.
-use Rattle.std.proofs.Common.{◌≡◌, ℕ, ◌+◌, ◌-◌, ◌^◌, ◌<◌, ◌≤◌, Bool, true, false, not, T, ltb, List, length, sym, refl, ap, ◌∙◌, ⊎_elim, add-zero, eq-or-lt_of_le, arith, ltb-false, ltb-true, le-ltb, lt-ltb, ne_eqb}
+use Rattle.std.proofs.Common.{◌≡◌, ℕ, ◌+◌, ◌-◌, ◌^◌, ◌<◌, ◌≤◌, Bool, true, false, not, T, ltb, List, length, sym, refl, ap, ◌∙◌, ⊎_elim, add-zero, eq-or-lt_of_le, arith, ltb-false, ltb-true, le-ltb, lt-ltb, ne_eqb, Float}
+use Rattle.std.specs.Float.Ieee.{lt, le}
 use borrow.Author.Tests.{not-false, not-true}
-use lib.Ieee.{Float, lt, le}
 use lib.Ieee.Bits.{is_true}
 use Rattle.number.proofs.Order.{holds, fails, lt_le_transitive, le_lt_transitive}
 use Rattle.loops.specs.Upto.{count, at}

@@ -5,31 +5,24 @@ use Rattle.std.specs.Float.Ieee.{lt, le}
 use Rattle.loops.specs.Upto.{at, filled}
 use Rattle.pieces.specs.Pieces.{piece_at}
 use Rattle.byte_lists.specs.Bytes.{byte_of}
-use Rattle.following.specs.Places.{interval_of, is_before, is_inside, is_past, grid_time, station_at, counts_of}
+use Rattle.following.specs.Places.{interval_of, is_before, is_inside, is_past, station_at, counts_of}
 use Rattle.following.specs.declared.interval.Cursor.{Cursor}
 use Rattle.following.specs.declared.pass.Counts.{Counts}
 use Rattle.following.specs.declared.pass.Passage.{Passage}
-use Rattle.following.specs.declared.pass.Source.{Source}
-use Rattle.following.specs.declared.pass.Source.TheVariants.{Listed, Even}
 
--- the time of sample j
-abbrev pub time_of : Source → List Float → ℕ → Float
-time_of Listed x j = at x j
-time_of (Even t0 dt) x j = grid_time t0 dt j
-
--- the station at that time
-abbrev pub station_of : List Float → List Float → List Float → Source → List Float → ℕ → Float
-station_of s a t source x j = station_at s a t (time_of source x j)
+-- the station at time j of x
+abbrev pub station_of : List Float → List Float → List Float → (ℕ → Float) → ℕ → Float
+station_of s a t x j = station_at s a t (x j)
 
 -- the last of the first n entries, NaN where there is none
 abbrev pub last_entry : (ℕ → Float) → ℕ → Float
 last_entry f n = cond (n == 0) nan (f (n - 1))
 
--- the stations at the first n times of a source, their counts, and the last of them
-pub record Passed (s a t : List Float) (source : Source) (x : List Float) (n : ℕ) (old : List ℕ) (r : Passage) (new : List ℕ) : Type 0 where
-  pub counts : r.counts ≡ counts_of t (time_of source x) n n
-  pub last : r.last ≡ last_entry (station_of s a t source x) n
-  pub left : new ≡ filled (byte_of (station_of s a t source x)) (8 * n) old
+-- the stations at the times x 0 .. x (n - 1), their counts, and the last of them
+pub record Passed (s a t : List Float) (x : ℕ → Float) (n : ℕ) (old : List ℕ) (r : Passage) (new : List ℕ) : Type 0 where
+  pub counts : r.counts ≡ counts_of t x n n
+  pub last : r.last ≡ last_entry (station_of s a t x) n
+  pub left : new ≡ filled (byte_of (station_of s a t x)) (8 * n) old
 
 -- ---- cited by inner functions alone
 -- every interval before that of the cursor ends below its time; its end and its piece are those of the interval
@@ -48,22 +41,22 @@ abbrev pub AllInside : List Float → (ℕ → Float) → ℕ → ℕ → Type 0
 AllInside t x start r = (k : ℕ) → start ≤ k → k < r → is_inside t (x k) ≡ true
 
 -- the cursor stands at a time that is inside, with the first `start` entries written, v the last of them, and room for n
-pub record Ready (s a t : List Float) (w : Cursor) (source : Source) (x : List Float) (start n : ℕ) (v : Float) (out : List ℕ) : Type 0 where
+pub record Ready (s a t : List Float) (w : Cursor) (x : ℕ → Float) (start n : ℕ) (v : Float) (out : List ℕ) : Type 0 where
   pub stands : Standing s a t w
   pub found : w.interval ≡ interval_of t w.time
   pub inside : is_inside t w.time ≡ true
   pub within : start ≤ n
   pub room : n ≤ length out / 8
-  pub last : v ≡ station_of s a t source x (start - 1)
-  pub written : out ≡ filled (byte_of (station_of s a t source x)) (8 * start) out
+  pub last : v ≡ station_of s a t x (start - 1)
+  pub written : out ≡ filled (byte_of (station_of s a t x)) (8 * start) out
 
 -- and then the times up to r are inside, with the first r entries written, v the last of them
-pub record Followed (s a t : List Float) (source : Source) (x : List Float) (start n r : ℕ) (v : Float) (old new : List ℕ) : Type 0 where
+pub record Followed (s a t : List Float) (x : ℕ → Float) (start n r : ℕ) (v : Float) (old new : List ℕ) : Type 0 where
   pub onward : start ≤ r
   pub within : r ≤ n
-  pub inside : AllInside t (time_of source x) start r
-  pub last : v ≡ station_of s a t source x (r - 1)
-  pub left : new ≡ filled (byte_of (station_of s a t source x)) (8 * r) old
+  pub inside : AllInside t x start r
+  pub last : v ≡ station_of s a t x (r - 1)
+  pub left : new ≡ filled (byte_of (station_of s a t x)) (8 * r) old
 
 -- no count is over the entries, and these are no more than a list of bytes can hold
 pub record Bounded (c : Counts) : Type 0 where

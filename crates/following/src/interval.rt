@@ -7,6 +7,7 @@ ghost use Rattle.byte_lists.specs.Bytes.{doubles_of};
 ghost use Rattle.following.specs.Places.{interval_of};
 ghost use Rattle.following.specs.Following.{Standing};
 
+use crate::pass::Timed;
 use byte_lists::doubles::double_at;
 use pieces::pair;
 use pieces::pair::Piece;
@@ -20,16 +21,16 @@ pub(crate) struct Cursor {
     pub piece: Piece,
 }
 
-pub(crate) fn piece_at(s: &[u8], a: &[u8], t: &[u8], k: usize) -> Piece
-    requires { k ≤ length t.now }
-    ensures { result ≡ piece_at (doubles_of s.now) (doubles_of a.now) (doubles_of t.now) k }
+pub(crate) fn piece_at(p: Timed<'_>, k: usize) -> Piece
+    requires { k ≤ length p.t.now }
+    ensures { result ≡ piece_at (doubles_of p.entry.s.now) (doubles_of p.entry.a.now) (doubles_of p.entry.t.now) k }
 {
     pair::piece_of(
-        double_at(s, k),
-        double_at(s, k + 1),
-        double_at(a, k),
-        double_at(a, k + 1),
-        double_at(t, k),
+        double_at(p.s, k),
+        double_at(p.s, k + 1),
+        double_at(p.a, k),
+        double_at(p.a, k + 1),
+        double_at(p.t, k),
     )
 }
 
@@ -38,15 +39,13 @@ fn interval_from(t: &[u8], x: f64, from: usize) -> usize
     requires { (from ≤ length (doubles_of t.now) - 1) × ((k : ℕ) → k < from → lt (at (doubles_of t.now) (k + 1)) x ≡ true) }
     ensures { result ≡ interval_of (doubles_of t.now) x }
 {
-    let mut k = from;
-    while k + 1 < t.len() / 8 {
-        if double_at(t, k + 1) < x {
-            k += 1;
-        } else {
-            return k;
+    let n = t.len() / 8;
+    for k in from + 1..n {
+        if !(double_at(t, k) < x) {
+            return k - 1;
         }
     }
-    k
+    n.saturating_sub(1)
 }
 
 // Where to look from: the interval of y where y is not above x, and else the first.
@@ -58,23 +57,23 @@ fn look_from(t: &[u8], x: f64, y: f64, from: usize) -> usize
 }
 
 // The piece of interval k: the old one if the interval is the old one.
-fn turned(p: Piece, s: &[u8], a: &[u8], t: &[u8], old: usize, k: usize) -> Piece
-    requires { (k ≤ length t.now) × (p ≡ piece_at (doubles_of s.now) (doubles_of a.now) (doubles_of t.now) old) }
-    ensures { result ≡ piece_at (doubles_of s.now) (doubles_of a.now) (doubles_of t.now) k }
+fn turned(piece: Piece, p: Timed<'_>, old: usize, k: usize) -> Piece
+    requires { (k ≤ length p.t.now) × (piece ≡ piece_at (doubles_of p.s.now) (doubles_of p.a.now) (doubles_of p.t.now) old) }
+    ensures { result ≡ piece_at (doubles_of p.entry.s.now) (doubles_of p.entry.a.now) (doubles_of p.entry.t.now) k }
 {
-    if k == old { p } else { piece_at(s, a, t, k) }
+    if k == old { piece } else { piece_at(p, k) }
 }
 
-pub(crate) fn advance(w: Cursor, s: &[u8], a: &[u8], t: &[u8], x: f64) -> Cursor
-    requires { Standing (doubles_of s.now) (doubles_of a.now) (doubles_of t.now) w }
-    ensures { (result.interval ≡ interval_of (doubles_of t.now) x) × (result.time ≡ x)
-        × Standing (doubles_of s.now) (doubles_of a.now) (doubles_of t.now) result }
+pub(crate) fn advance(w: Cursor, p: Timed<'_>, x: f64) -> Cursor
+    requires { Standing (doubles_of p.s.now) (doubles_of p.a.now) (doubles_of p.t.now) w }
+    ensures { (result.interval ≡ interval_of (doubles_of p.entry.t.now) x) × (result.time ≡ x)
+        × Standing (doubles_of p.entry.s.now) (doubles_of p.entry.a.now) (doubles_of p.entry.t.now) result }
 {
-    let k = interval_from(t, x, look_from(t, x, w.time, w.interval));
+    let k = interval_from(p.t, x, look_from(p.t, x, w.time, w.interval));
     Cursor {
         time: x,
         interval: k,
-        end: double_at(t, k + 1),
-        piece: turned(w.piece, s, a, t, w.interval, k),
+        end: double_at(p.t, k + 1),
+        piece: turned(w.piece, p, w.interval, k),
     }
 }

@@ -1,15 +1,8 @@
 -- What passing every check of an even grid says, and what the grid owes to its outcome.
-use Prim.Native.Nat.{ℕ, ◌+◌, ◌*◌, ◌/◌, ◌≤◌, min}
-use mathlib.Core.Path.{◌≡◌, refl, ap, ◌∙◌}
-use mathlib.Core.Bool.{Bool, true, false, not, cond, ◌&&◌}
-use mathlib.Core.List.{List}
-use native.Mathlib.Nat.{add-zero, le_refl, min-eq_left}
-use native.Mathlib.Omega.{arith}
-use borrow.Author.Tests.{leb-true, lt-ltb, le-ltb}
-use lib.Dec.{leb, ltb}
-use lib.ListN.{length}
-use lib.Ieee.{Float, le}
-use lib.Ieee.Scale.{finite}
+use Rattle.std.proofs.Common.{ℕ, ◌+◌, ◌*◌, ◌/◌, ◌≤◌, min, ◌≡◌, refl, ap, ◌∙◌, Bool, true, false, not, cond, ◌&&◌, List, add-zero, le_refl, arith, leb-true, lt-ltb, le-ltb, leb, ltb, Ok, Err, length, Float}
+use Rattle.std.specs.Float.Ieee.{le}
+use native.Mathlib.Nat.{min-eq_left}
+use Rattle.std.specs.Float.Ieee.Scale.{finite}
 use Rattle.number.specs.Doubles.{zero as plus-zero}
 use Rattle.loops.specs.Upto.{filled}
 use Rattle.refusals.specs.Most.{most_samples}
@@ -23,9 +16,7 @@ use Rattle.following.specs.Places.{grid_time, counts_of}
 use Rattle.following.specs.Following.{last_entry, Passed}
 use Rattle.following.specs.declared.pass.Counts.{Counts}
 use Rattle.following.specs.declared.pass.Passage.{Passage}
-use Rattle.following.specs.declared.pass.Source.TheVariants.{Even}
 use Rattle.sampling.specs.Samples.{timed_no}
-use Rattle.sampling.specs.declared.samples.Sampled.TheVariants.{Done, Refused}
 use Rattle.sampling.proofs.Samplings.{timed}
 use Rattle.strap_end.specs.Final.{final_added}
 use Rattle.gridding.specs.Grid.{last_of, grid_size, even_no, grid_no, grid_station, grid_entry, grid_entries, grid_counts}
@@ -38,7 +29,7 @@ pub record Laid (t : List Float) (t0 dt : Float) : Type 0 where
   pub step_positive : not (le dt plus-zero) ≡ true
   pub few : grid_size t t0 dt ≤ most_samples
 
-laid : (t : List Float) (t0 dt : Float) → even_no t t0 dt ≡ 0 → Laid t t0 dt
+pub laid : (t : List Float) (t0 dt : Float) → even_no t t0 dt ≡ 0 → Laid t t0 dt
 unfolding even_no
 laid t t0 dt h =
     let few = leb (grid_size t t0 dt) most_samples in
@@ -102,9 +93,9 @@ counted t x n true = refl
 counted t x n false = simp add-zero
 
 -- what the pass over the times leaves, and the final after it
-module _ (s a t : List Float) (t0 dt : Float) (final : Bool) (x : List Float) (old : List ℕ) (n : ℕ) (p : Passage) (mid : List ℕ)
-    (z : grid_no s a t t0 dt final (length old / 8) ≡ 0) (e : n ≡ grid_size t t0 dt) (w : Passed s a t (Even t0 dt) x (min n (length old / 8)) old p mid) where
-  all_passed : Passed s a t (Even t0 dt) x n old p mid
+module _ (s a t : List Float) (t0 dt : Float) (final : Bool) (old : List ℕ) (n : ℕ) (p : Passage) (mid : List ℕ)
+    (z : grid_no s a t t0 dt final (length old / 8) ≡ 0) (e : n ≡ grid_size t t0 dt) (w : Passed s a t (grid_time t0 dt) (min n (length old / 8)) old p mid) where
+  all_passed : Passed s a t (grid_time t0 dt) n old p mid
   all_passed =
       let fits = gridded s a t t0 dt final (length old / 8) z in
       let m : min n (length old / 8) ≡ n = min-eq_left (omega (arith, fits)) in
@@ -115,8 +106,8 @@ module _ (s a t : List Float) (t0 dt : Float) (final : Bool) (x : List Float) (o
   few_written = let fits = gridded s a t t0 dt final (length old / 8) z in rw all_passed.counts (omega (arith, fits))
 
   pub finished : (r : Counts) (new : List ℕ) → Ended (final_added final t0 (last_of t) p.last (last_of s)) n (last_of s) p.counts mid r new
-      → Outcome (Done (grid_counts s a t t0 dt final)) Refused (grid_no s a t t0 dt final (length old / 8))
-      (byte_of (grid_entry s a t t0 dt)) (8 * grid_entries s a t t0 dt final) old (Done r) new
+      → Outcome (Ok (grid_counts s a t t0 dt final)) Err (grid_no s a t t0 dt final (length old / 8))
+      (byte_of (grid_entry s a t t0 dt)) (8 * grid_entries s a t t0 dt final) old (Ok r) new
   unfolding grid_entry grid_entries grid_station
   finished r new d =
       let f = grid_station s a t t0 dt in
@@ -124,5 +115,5 @@ module _ (s a t : List Float) (t0 dt : Float) (final : Bool) (x : List Float) (o
       let added = final_added final t0 (last_of t) (last_entry f n) (last_of s) in
       let fits = gridded s a t t0 dt final (length old / 8) z in
       let h : n + cond added 1 0 ≤ length old / 8 = omega (arith, room final t0 (last_of t) (last_entry f n) (last_of s), fits) in
-      succeeds z (ap Done ((rw (q.last, q.counts) at d.counts) ∙ counted t (grid_time t0 dt) n added ∙ rw e refl))
+      succeeds z (ap Ok ((rw (q.last, q.counts) at d.counts) ∙ counted t (grid_time t0 dt) n added ∙ rw e refl))
       ((rw (q.last, q.left) at d.left) ∙ ended f n (last_of s) added old h ∙ rw e refl)

@@ -1,5 +1,5 @@
 -- t to s on an even grid
-use Rattle.std.specs.Prelude.{ℕ, ◌+◌, ◌*◌, ◌-◌, ◌/◌, List, Bool, not, cond, ◌&&◌, leb, ltb, length, Float}
+use Rattle.std.specs.Prelude.{ℕ, ◌+◌, ◌*◌, ◌-◌, ◌/◌, List, Bool, not, cond, ◌&&◌, leb, ltb, length, Float, Result, Ok, Err}
 use Rattle.std.specs.Float.Ieee.{le}
 use Rattle.std.specs.Float.Ieee.Scale.{finite}
 use Rattle.number.specs.Doubles.{zero, ◌⊖◌, ◌⊘◌}
@@ -13,8 +13,6 @@ use Rattle.following.specs.Following.{last_entry}
 use Rattle.following.specs.declared.pass.Counts.{Counts}
 use Rattle.byte_lists.specs.Bytes.{in_eights, doubles_of, byte_of}
 use Rattle.sampling.specs.Samples.{timed_no}
-use Rattle.sampling.specs.declared.samples.Sampled.{Sampled}
-use Rattle.sampling.specs.declared.samples.Sampled.TheVariants.{Done, Refused}
 use Rattle.strap_end.specs.Final.{final_added}
 
 unfoldable pub last_of : List Float → Float
@@ -62,7 +60,7 @@ grid_byte_no s a t t0 dt final out =
     or grid_no (doubles_of s) (doubles_of a) (doubles_of t) t0 dt final (length out / 8)
 
 -- the entries, as bytes
-abbrev pub ByteGridded : List ℕ → List ℕ → List ℕ → Float → Float → Bool → List ℕ → Sampled → List ℕ → Type 0
+abbrev pub ByteGridded : List ℕ → List ℕ → List ℕ → Float → Float → Bool → List ℕ → Result Counts ℕ → List ℕ → Type 0
 ByteGridded s a t t0 dt final old =
-    Outcome (Done (grid_counts (doubles_of s) (doubles_of a) (doubles_of t) t0 dt final)) Refused (grid_byte_no s a t t0 dt final old)
+    Outcome (Ok (grid_counts (doubles_of s) (doubles_of a) (doubles_of t) t0 dt final)) Err (grid_byte_no s a t t0 dt final old)
     (byte_of (grid_entry (doubles_of s) (doubles_of a) (doubles_of t) t0 dt)) (8 * grid_entries (doubles_of s) (doubles_of a) (doubles_of t) t0 dt final) old

@@ -1,21 +1,14 @@
 -- Each number below 2^64 has a form: its digits in base 128, with 128 added to all but the last.
-use Prim.Native.Nat.{ℕ, zero, suc, ◌+◌, ◌*◌, ◌/◌, ◌%◌, ◌^◌, ◌<◌, ◌≤◌}
-use mathlib.Core.Path.{◌≡◌, refl, sym, ap, ap₂, subst, ◌∙◌}
-use mathlib.Core.Bool.{Bool, true, false, cond, not, ◌||◌}
-use mathlib.Core.List.{List, [], ◌∷◌}
-use native.Mathlib.Omega.{arith}
-use native.Mathlib.Numerals.{add-one}
-use native.Mathlib.Nat.{zero-add, mul_comm, pow-suc, one-le-pow, mod-eq_of_lt, le-div_iff_mul-le, div-lt_iff_lt-mul}
+use Rattle.std.proofs.Common.{ℕ, zero, suc, ◌+◌, ◌*◌, ◌/◌, ◌%◌, ◌^◌, ◌<◌, ◌≤◌, ◌≡◌, refl, sym, ap, ap₂, subst, ◌∙◌, Bool, true, false, cond, not, ◌||◌}
+use Rattle.std.proofs.Common.{List, [], ◌∷◌, length, get_or, Ok, ltb, eqb, arith, add-one, zero-add}
+use Rattle.std.proofs.Math.Nat.{mul_comm, pow-suc, one-le-pow, mod-eq_of_lt, le-div_iff_mul-le, div-lt_iff_lt-mul}
 use borrow.Author.Tests.{lt-ltb, le-ltb, ltb-true, ltb-false, eq-eqb, ne_eqb}
 use lib.Arith.{mod-mul}
-use lib.Dec.{ltb, eqb}
-use lib.ListN.{length, get_or}
 use lib.Pow.{are_bytes}
 use Rattle.loops.specs.Upto.{first, table}
 use Rattle.loops.proofs.Counting.{first_is}
 use Rattle.loops.proofs.Filling.{length_table, table_has}
-use Rattle.groups.specs.Groups.{group_at, is_last, value_of, shortest, room_at, ended, ended_by, read_at}
-use Rattle.groups.specs.declared.Number.TheVariants.{Read}
+use Rattle.groups.specs.Groups.{group_at, is_last, value_of, shortest, room_at, ended, ended_by, read_at, number}
 use Rattle.group_laws.specs.GroupLaws.{EachHasOne}
 
 -- a list whose entries are below 256 is one of bytes
@@ -140,9 +133,9 @@ module _ (n : ℕ) (s : Needed n) where
   first_last : first (is_last form 0) (s.last + 1) ≡ s.last
   first_last = first_is (is_last form 0) (s.last + 1) s.last (omega arith) passed (λ _. met)
 
-  reads : n < 2 ^ 64 → read_at form 0 (length form) ≡ Read n (length form)
+  reads : n < 2 ^ 64 → read_at form 0 (length form) ≡ Ok (number n (length form))
   unfolding read_at ended_by ended
-  reads h = rw (room, first_last, lt-ltb s.last (s.last + 1) (omega arith), all, lt-ltb n (2 ^ 64) h, short, long) (ap (Read n) (omega arith))
+  reads h = rw (room, first_last, lt-ltb s.last (s.last + 1) (omega arith), all, lt-ltb n (2 ^ 64) h, short, long) (ap (λ (next : ℕ). Ok (number n next)) (omega arith))
 
   bytes : are_bytes form ≡ true
   bytes =

@@ -1,18 +1,14 @@
 -- What is known of a number that was read.
-use Prim.Native.Nat.{ℕ, zero, suc, ◌+◌, ◌*◌, ◌^◌, ◌<◌, ◌≤◌, min}
-use mathlib.Core.Path.{◌≡◌, refl, ap, subst, ◌∙◌}
-use mathlib.Core.Bool.{Bool, true, false, cond, ◌&&◌}
-use mathlib.Core.List.{List}
-use native.Mathlib.Omega.{arith}
-use native.Mathlib.Nat.{mul-le-mul_left}
+use Rattle.std.proofs.Common.{ℕ, zero, suc, ◌+◌, ◌*◌, ◌^◌, ◌<◌, ◌≤◌, min, ◌≡◌, refl, ap, subst, ◌∙◌, Bool, true, false, cond, ◌&&◌}
+use Rattle.std.proofs.Common.{List, length, Result, Ok, Err, ltb, arith}
+use Rattle.std.proofs.Math.Nat.{mul-le-mul_left}
 use borrow.Author.Tests.{ltb-true, eqb-true, eqb-false, ne_eqb}
-use lib.Dec.{ltb}
-use lib.ListN.{length}
 use Rattle.loops.specs.Upto.{first}
 use Rattle.loops.proofs.Counting.{and_left, and_right, first_before, first_has}
-use Rattle.groups.specs.Groups.{group_at, is_last, value_of, shortest, ended, ended_by, room_at, read_at}
+use Rattle.groups.specs.Groups.{group_at, is_last, value_of, shortest, ended, ended_by, room_at, read_at, number}
 use Rattle.groups.specs.declared.Number.{Number}
-use Rattle.groups.specs.declared.Number.TheVariants.{Read, Cut, Faulty}
+use Rattle.groups.specs.declared.Fault.{Fault}
+use Rattle.groups.specs.declared.Fault.TheVariants.{Cut, Faulty}
 use Rattle.groups.proofs.Values.{value_more, low_bits}
 
 -- a number n before the place `next`, whose last group is group k
@@ -27,13 +23,12 @@ pub record Grouped (l : List ℕ) (at end n next : ℕ) : Type 0 where
   pub last : is_last l at k ≡ true
   pub short : shortest (group_at l at k) k ≡ true
 
-abbrev pub Known : List ℕ → ℕ → ℕ → Number → Type 0
-Known l at end (Read n next) = Grouped l at end n next
-Known l at end Cut = Unit {0}
-Known l at end Faulty = Unit {0}
+abbrev pub Known : List ℕ → ℕ → ℕ → Result Number Fault → Type 0
+Known l at end (Ok n) = Grouped l at end n.value n.next
+Known l at end (Err _) = Unit {0}
 
 module _ (l : List ℕ) (at end : ℕ) where
-  none_known : (t : Bool) → Known l at end (cond t Cut Faulty)
+  none_known : (t : Bool) → Known l at end (cond t (Err Cut) (Err Faulty))
   none_known true = tt
   none_known false = tt
 
@@ -43,7 +38,7 @@ module _ (l : List ℕ) (at end : ℕ) where
     where
       read : (k : ℕ) → k < room_at l at end → ((j : ℕ) → j < k → is_last l at j ≡ false) → is_last l at k ≡ true
           → (t : Bool) → ltb (value_of l at (k + 1)) (2 ^ 64) && shortest (group_at l at k) k ≡ t
-          → Known l at end (cond t (Read (value_of l at (k + 1)) (at + k + 1)) Faulty)
+          → Known l at end (cond t (Ok (number (value_of l at (k + 1)) (at + k + 1))) (Err Faulty))
       read k h before has true q = record {
         k = k;
         few = omega arith;
@@ -58,7 +53,7 @@ module _ (l : List ℕ) (at end : ℕ) where
       read k h before has false q = tt
 
       met : (k : ℕ) → ((j : ℕ) → j < k → is_last l at j ≡ false) → (k < room_at l at end → is_last l at k ≡ true)
-          → (t : Bool) → ltb k (room_at l at end) ≡ t → Known l at end (cond t (ended l at k) (cond (ltb (room_at l at end) 10) Cut Faulty))
+          → (t : Bool) → ltb k (room_at l at end) ≡ t → Known l at end (cond t (ended l at k) (cond (ltb (room_at l at end) 10) (Err Cut) (Err Faulty)))
       met k before has true q =
           let h = ltb-true k (room_at l at end) q in
           read k h before (has h) (ltb (value_of l at (k + 1)) (2 ^ 64) && shortest (group_at l at k) k) refl
@@ -67,7 +62,7 @@ module _ (l : List ℕ) (at end : ℕ) where
       go : (k : ℕ) → ((j : ℕ) → j < k → is_last l at j ≡ false) → (k < room_at l at end → is_last l at k ≡ true) → Known l at end (ended_by l at (room_at l at end) k)
       go k before has = met k before has (ltb k (room_at l at end)) refl
 
-pub grouped : (l : List ℕ) (at end n next : ℕ) → read_at l at end ≡ Read n next → Grouped l at end n next
+pub grouped : (l : List ℕ) (at end n next : ℕ) → read_at l at end ≡ Ok (number n next) → Grouped l at end n next
 grouped l at end n next e = subst (Known l at end) e (known l at end)
 
 -- ---- no more groups than it needs

@@ -1,15 +1,10 @@
 -- What groups stand for: how the sum grows, what it stays below, and where 2^64 is.
-use Prim.Native.Nat.{ℕ, zero, suc, ◌+◌, ◌*◌, ◌-◌, ◌%◌, ◌^◌, ◌<◌, ◌≤◌}
-use mathlib.Core.Path.{◌≡◌, refl, sym, ap, ap₂, ◌∙◌, subst}
-use mathlib.Core.Bool.{Bool, true, false, cond, ◌&&◌, ◌||◌}
-use mathlib.Core.List.{List}
-use native.Mathlib.Omega.{arith}
-use native.Mathlib.Numerals.{add-one}
-use native.Mathlib.Nat.{pow-suc, pow-le-pow_right, one-le-pow, mul-le-mul_left}
+use Rattle.std.proofs.Common.{ℕ, zero, suc, ◌+◌, ◌*◌, ◌-◌, ◌%◌, ◌^◌, ◌<◌, ◌≤◌, ◌≡◌, refl, sym, ap, ap₂, ◌∙◌, subst}
+use Rattle.std.proofs.Common.{Bool, true, false, cond, ◌&&◌, ◌||◌, List, Ok, Err, ltb, leb, arith, add-one}
+use Rattle.std.proofs.Math.Nat.{pow-suc, pow-le-pow_right, one-le-pow, mul-le-mul_left}
 use borrow.Author.Tests.{lt-ltb, le-ltb, ltb-true, ltb-false, leb-true, leb-false}
-use lib.Dec.{ltb, leb}
-use Rattle.groups.specs.Groups.{group_at, value_of, shortest, ended}
-use Rattle.groups.specs.declared.Number.TheVariants.{Read, Faulty}
+use Rattle.groups.specs.Groups.{group_at, value_of, shortest, ended, number}
+use Rattle.groups.specs.declared.Fault.TheVariants.{Faulty}
 
 pub value_none : (l : List ℕ) (at : ℕ) → value_of l at 0 ≡ 0
 unfolding value_of
@@ -35,9 +30,6 @@ value_below l at (suc n) = rw pow-suc (grown (value_of l at n) (128 ^ n) (group_
 -- ---- from the high group down: v stands for the groups from k on of a number n
 abbrev pub Down : List ℕ → ℕ → ℕ → ℕ → ℕ → Type 0
 Down l at k v n = v * 128 ^ k + value_of l at k ≡ n
-
-pub down_starts : (l : List ℕ) (at n : ℕ) → Down l at n 0 (value_of l at n)
-down_starts l at n = omega arith
 
 pub down_ends : (l : List ℕ) (at k v n : ℕ) → k ≡ 0 → Down l at k v n → v ≡ n
 down_ends l at k v n e h = omega (arith, value_none l at, subst (λ (i : ℕ). Down l at i v n) e h)
@@ -97,6 +89,6 @@ module _ (l : List ℕ) (at k : ℕ) (last : group_at l at k < 128) where
           sym (le-ltb _ _ (ten_above (omega arith) (leb-false _ _ r)))
 
   -- the test that the code makes
-  pub ended_by : k ≤ 9 → cond ((ltb k 9 || leb (group_at l at k) 1) && shortest (group_at l at k) k) (Read (value_of l at (k + 1)) (at + k + 1)) Faulty ≡ ended l at k
+  pub ended_by : k ≤ 9 → cond ((ltb k 9 || leb (group_at l at k) 1) && shortest (group_at l at k) k) (Ok (number (value_of l at (k + 1)) (at + k + 1))) (Err Faulty) ≡ ended l at k
   unfolding ended
   ended_by h = rw (edge h)

@@ -21,10 +21,10 @@ pub fn product(a: u64, b: u64) -> Wide
     let right = a0 * b1;
     let one = left + (low >> 32);
     let two = right + one % 0x1_0000_0000;
-    let middle = std::num::wrapping_add_u64(left, right);
+    let middle = left.wrapping_add(right);
     Wide {
         hi: a1 * b1 + (one >> 32) + (two >> 32),
-        lo: std::num::wrapping_add_u64(middle << 32, low),
+        lo: (middle << 32).wrapping_add(low),
     }
 }
 
@@ -32,13 +32,13 @@ pub fn product(a: u64, b: u64) -> Wide
 pub fn plus(a: Wide, b: Wide) -> Wide
     ensures { (result.hi ≡ (a.hi + b.hi + (a.lo + b.lo) / 2 ^ 64) % 2 ^ 64) × (result.lo ≡ (a.lo + b.lo) % 2 ^ 64) }
 {
-    let lo = std::num::wrapping_add_u64(a.lo, b.lo);
-    let hi = std::num::wrapping_add_u64(a.hi, b.hi);
+    let lo = a.lo.wrapping_add(b.lo);
+    let hi = a.hi.wrapping_add(b.hi);
     if lo < a.lo {
         return Wide {
-            hi: std::num::wrapping_add_u64(hi, 1),
-            lo: lo,
+            hi: hi.wrapping_add(1),
+            lo,
         };
     }
-    Wide { hi: hi, lo: lo }
+    Wide { hi, lo }
 }

@@ -39,14 +39,9 @@ pub fn cut(s: Span, c: f64, r: f64) -> Span
 }
 
 // c zero, and r below zero.
+#[tactic(auto, unfolding(crate::specs::Projection::flat_by))]
 pub fn is_flat(c: f64, r: f64) -> bool
     ensures { result ≡ flat_by c r }
 {
-    if 0.0 < c {
-        return false;
-    }
-    if c < 0.0 {
-        return false;
-    }
-    r < 0.0
+    !(0.0 < c) && !(c < 0.0) && r < 0.0
 }

@@ -1,14 +1,9 @@
 -- A pattern stands for an infinity or a NaN exactly where its exponent is all ones, in any format.
-use Prim.Native.Nat.{ℕ, zero, suc, ◌+◌, ◌/◌, ◌%◌, ◌<◌, ◌^◌}
-use mathlib.Core.Path.{◌≡◌, refl, sym, ap, ◌∙◌}
-use mathlib.Core.Bool.{Bool, true, false, not, cond, ◌&&◌}
-use mathlib.Core.List.{List}
-use native.Mathlib.Omega.{arith}
-use borrow.Author.Tests.{ne_eqb, eq-eqb, eqb-true, eqb-false}
-use lib.Dec.{T, eqb, leb}
-use lib.ListN.{length}
-use lib.Ieee.{nan, inf, Format, prec, low, odd, hid, ones, of_fields, of_bits, nan_bits, binary64}
-use lib.Ieee.Scale.{finite}
+use Rattle.std.proofs.Common.{ℕ, zero, suc, ◌+◌, ◌/◌, ◌%◌, ◌<◌, ◌^◌, ◌≡◌, refl, sym, ap, ◌∙◌, Bool, true, false, not, cond, ◌&&◌, List, arith, ne_eqb, eq-eqb, eqb-true, T, eqb, leb, length}
+use Rattle.std.specs.Float.{nan, inf, Format, binary64}
+use Rattle.std.specs.Float.Ieee.{prec, low, odd, hid, ones, of_fields, of_bits, nan_bits}
+use borrow.Author.Tests.{eqb-false}
+use Rattle.std.specs.Float.Ieee.Scale.{finite}
 use Rattle.loops.specs.Entries.{every_entry}
 use Rattle.loops.proofs.Counting.{and_false, entry_at}
 use Rattle.number.proofs.Order.{holds}

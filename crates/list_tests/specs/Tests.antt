@@ -2,8 +2,6 @@
 use Rattle.std.specs.Prelude.{Bool, not, ◌&&◌, Float}
 use Rattle.std.specs.Float.Ieee.{lt, eq}
 use Rattle.number.specs.Doubles.{zero}
-use Rattle.list_tests.specs.declared.tests.Pair.{Pair}
-use Rattle.list_tests.specs.declared.tests.Pair.TheVariants.{Rising, NotBothZero}
 
 -- minus zero is not below zero
 unfoldable pub not_below_zero : Float → Bool
@@ -11,7 +9,3 @@ not_below_zero x = not (lt x zero)
 
 unfoldable pub not_both_zero : Float → Float → Bool
 not_both_zero x y = not (eq x zero && eq y zero)
-
-abbrev pub pair_test : Pair → Float → Float → Bool
-pair_test Rising = lt
-pair_test NotBothZero = not_both_zero

@@ -1,24 +1,15 @@
 // The tests of one list of doubles. None ends its loop early: what does not branch is done for several entries at once. A list whose entries are all finite is
 // then read without a look for NaN.
-ghost use Rattle.std.specs.Prelude.{◌≡◌, true, cond, ◌&&◌, ◌/◌, ◌<◌, ◌≤◌, length};
+ghost use Rattle.std.specs.Prelude.{◌≡◌, ◌-◌, ◌/◌, ◌<◌, ◌≤◌, true, false, Bool, cond, length, MatchOption};
 ghost use Rattle.std.specs.Float.{binary64};
-ghost use Rattle.std.specs.Float.Ieee.{lt, of_bits};
+ghost use Rattle.std.specs.Float.Ieee.{Float, lt, of_bits};
 ghost use Rattle.std.specs.Float.Ieee.Scale.{finite};
-ghost use Rattle.refusals.specs.Refusals.{unless, ◌or◌};
 ghost use Rattle.loops.specs.Upto.{at};
 ghost use Rattle.loops.specs.Entries.{every_entry, every_pair};
 ghost use Rattle.byte_lists.specs.Bytes.{doubles_of};
-ghost use Rattle.list_tests.specs.Tests.{not_below_zero, not_both_zero, pair_test};
+ghost use Rattle.list_tests.specs.Tests.{not_below_zero, not_both_zero};
 
 use byte_lists::doubles;
-use refusals::chain::{or, unless};
-
-// What is asked of each entry with the next.
-#[derive(Clone, Copy)]
-pub enum Pair {
-    Rising,
-    NotBothZero,
-}
 
 // 1 for an exponent that is all ones, an infinity's or a NaN's, and else 0: it carries into the sign's place.
 fn endless(pattern: u64) -> u64
@@ -31,81 +22,79 @@ pub fn all_finite(b: &[u8]) -> bool
     ensures { result ≡ every_entry finite (doubles_of b.now) }
 {
     let mut count = 0;
-    let mut k = 0;
-    while k < b.len() / 8 {
+    for k in 0..b.len() / 8 {
         count += endless(doubles::pattern_at(b, k));
-        k += 1;
     }
     count == 0
 }
 
-fn finite_at(b: &[u8], k: usize) -> f64
-    requires { (k < length b.now / 8) × (every_entry finite (doubles_of b.now) ≡ true) }
-    ensures { result ≡ at (doubles_of b.now) k }
-{
-    f64::from_bits(doubles::pattern_at(b, k))
+// A list whose entries are all finite.
+#[derive(Clone, Copy)]
+pub struct Finite<'a> {
+    pub bytes: &'a [u8],
+    pub ghost every_finite: { every_entry finite (doubles_of bytes.now) ≡ true },
 }
 
-fn both(p: bool, q: bool) -> bool
-    ensures { result ≡ p && q }
-{
-    if p { q } else { false }
-}
-
-fn none_below_zero(b: &[u8]) -> bool
-    requires { every_entry finite (doubles_of b.now) ≡ true }
-    ensures { result ≡ every_entry not_below_zero (doubles_of b.now) }
-{
-    let mut all = true;
-    let mut k = 0;
-    while k < b.len() / 8 {
-        all = both(all, !(finite_at(b, k) < 0.0));
-        k += 1;
+impl<'a> Finite<'a> {
+    pub fn of(bytes: &'a [u8]) -> Option<Finite<'a>>
+        ensures { MatchOption result (every_entry finite (doubles_of bytes.now) ≡ false) (λ f. f.bytes.now ≡ bytes.now) }
+    {
+        if all_finite(bytes) {
+            Some(Finite { bytes })
+        } else {
+            None
+        }
     }
-    all
-}
 
-fn pair_passes(test: Pair, x: f64, y: f64) -> bool
-    ensures { result ≡ pair_test test x y }
-{
-    match test {
-        Pair::Rising => x < y,
-        Pair::NotBothZero => if x == 0.0 { !(y == 0.0) } else { true },
+    pub fn len(self) -> usize
+        ensures { result ≡ length (doubles_of self.entry.bytes.now) }
+    {
+        self.bytes.len() / 8
     }
-}
 
-fn every_pair(test: Pair, b: &[u8]) -> bool
-    requires { every_entry finite (doubles_of b.now) ≡ true }
-    ensures { result ≡ every_pair (pair_test test) (doubles_of b.now) }
-{
-    let mut all = true;
-    let mut k = 0;
-    while k + 1 < b.len() / 8 {
-        all = both(all, pair_passes(test, finite_at(b, k), finite_at(b, k + 1)));
-        k += 1;
+    // NaN where there is none.
+    pub fn get(self, k: usize) -> f64
+        ensures { result ≡ at (doubles_of self.entry.bytes.now) k }
+    {
+        if k < self.bytes.len() / 8 {
+            f64::from_bits(doubles::pattern_at(self.bytes, k))
+        } else {
+            f64::NAN
+        }
     }
-    all
-}
 
-// A list that is finite and strictly increasing, or the number of the first fault.
-pub fn check_rising(b: &[u8], infinite: u64, falls: u64) -> u64
-    ensures { result ≡ cond (every_entry finite (doubles_of b.now)) (unless (every_pair lt (doubles_of b.now)) falls) infinite }
-{
-    if all_finite(b) {
-        return unless(every_pair(Pair::Rising, b), falls);
+    pub fn none_below_zero(self) -> bool
+        ensures { result ≡ every_entry not_below_zero (doubles_of self.entry.bytes.now) }
+    {
+        let mut all = true;
+        for k in 0..self.len() {
+            all &= !(self.get(k) < 0.0);
+        }
+        all
     }
-    infinite
-}
 
-// Squared speeds: 14, 17 and 18.
-pub fn check_speeds(b: &[u8]) -> u64
-    ensures { result ≡ cond (every_entry finite (doubles_of b.now))
-        (unless (every_entry not_below_zero (doubles_of b.now)) 17 or unless (every_pair not_both_zero (doubles_of b.now)) 18)
-        14 }
-{
-    if all_finite(b) {
-        let stands = unless(every_pair(Pair::NotBothZero, b), 18);
-        return or(unless(none_below_zero(b), 17), stands);
+    // What `test` asks of each entry with the next.
+    fn every_pair<F: Fn(f64, f64) -> bool>(self, test: F) -> bool
+        requires { F.IsAlwaysCallable test }
+        ensures { (p : Float → Float → Bool) → ((x y : Float) (r : Bool) → F.post test x y r → r ≡ p x y)
+            → result ≡ every_pair p (doubles_of self.entry.bytes.now) }
+    {
+        let mut all = true;
+        for k in 1..self.len() {
+            all &= test(self.get(k - 1), self.get(k));
+        }
+        all
     }
-    14
+
+    pub fn rises(self) -> bool
+        ensures { result ≡ every_pair lt (doubles_of self.entry.bytes.now) }
+    {
+        self.every_pair(|x, y| x < y)
+    }
+
+    pub fn never_still(self) -> bool
+        ensures { result ≡ every_pair not_both_zero (doubles_of self.entry.bytes.now) }
+    {
+        self.every_pair(|x, y| !(x == 0.0 && y == 0.0))
+    }
 }

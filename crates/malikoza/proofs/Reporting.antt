@@ -9,8 +9,8 @@ use lib.Ieee.Bits.{of_bits-fits, of_bits-to_bits}
 use Rattle.limits.specs.declared.request.Station.{Station}
 use Rattle.limits.specs.declared.request.Tolerances.{Tolerances}
 use Rattle.limits.specs.declared.request.Request.{Request}
-use Rattle.search.specs.declared.answer.Answer.{Answer}
-use Rattle.search.specs.declared.answer.Answer.TheVariants.{Certified, Refused}
+use Rattle.search.specs.Answer.{Answer, certified}
+use Rattle.std.specs.Prelude.{Ok, Err}
 use Rattle.topp2_ra.specs.Recovery.{recovered}
 use Rattle.passing.specs.Demand.{Doubles}
 use Rattle.passing.proofs.Reports.{Reported}
@@ -29,13 +29,13 @@ module _ (q : Request) (rows : List ℕ) {number s₀ s n₀ n r₀ r t₀ t : �
   unfolding recovered_bytes
   reported = go (in_eights rows) (recovered q (doubles_of rows)) refl told
     where
-      go : (b : Bool) (a : Answer) → recovered q (doubles_of rows) ≡ a → Told (cond b a (Refused 10)) number s₀ s n₀ n r₀ r t₀ t → Reported q (doubles_of rows) number s t
+      go : (b : Bool) (a : Answer) → recovered q (doubles_of rows) ≡ a → Told (cond b a (Err 10)) number s₀ s n₀ n r₀ r t₀ t → Reported q (doubles_of rows) number s t
       go false a e w z = absurd (omega (arith, w.number_is))
-      go true (Certified x u v k) e w z =
-          let f = ap (of_bits binary64) w.speed_is ∙ of_bits-to_bits binary64 x (speed_double q (doubles_of rows) x u v k D e) in
-          (u, v, e ∙ sym (ap₂ (λ (y : Float) (c : ℕ). Certified y u v c) f w.tried_is))
-      go true (Refused zero) e w z = absurd (refusal_numbered q (doubles_of rows) e)
-      go true (Refused (suc k)) e w z = absurd (omega (arith, w.number_is))
+      go true (Ok c) e w z =
+          let f = ap (of_bits binary64) w.speed_is ∙ of_bits-to_bits binary64 c.speed (speed_double q (doubles_of rows) c.speed c.worst_normalized c.worst_raw c.tried D e) in
+          (c.worst_normalized, c.worst_raw, e ∙ sym (ap₂ (λ (y : Float) (k : ℕ). Ok (certified y c.worst_normalized c.worst_raw k)) f w.tried_is))
+      go true (Err zero) e w z = absurd (refusal_numbered q (doubles_of rows) e)
+      go true (Err (suc k)) e w z = absurd (omega (arith, w.number_is))
 
   recovering : Recovering q rows number s₀ s n₀ n r₀ r t₀ t
   recovering = record {

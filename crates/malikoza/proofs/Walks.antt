@@ -10,8 +10,8 @@ use lib.Ieee.{binary64, of_bits}
 use Rattle.refusals.specs.Most.{most_stations}
 use Rattle.limits.specs.declared.request.Station.{Station}
 use Rattle.limits.specs.declared.request.Request.{Request}
-use Rattle.search.specs.declared.answer.Answer.{Answer}
-use Rattle.search.specs.declared.answer.Answer.TheVariants.{Refused}
+use Rattle.search.specs.Answer.{Answer}
+use Rattle.std.specs.Prelude.{Ok, Err}
 use Rattle.topp2_ra.specs.Recovery.{recovered}
 use Rattle.passing.specs.Demand.{Sound}
 use Rattle.byte_lists.specs.Bytes.{in_eights, doubles_of}
@@ -44,8 +44,8 @@ module _ (w : Walk) (s : Station) (rows : List ℕ) where
   unfolding stepped_bytes stepped step_answer recovered_bytes
   as_recovered e = go (in_eights rows)
     where
-      go : (b : Bool) → (cond b (stepped w s (doubles_of rows)) (record { walk = w; answer = Refused 10 })).answer ≡ cond b (recovered q (doubles_of rows)) (Refused 10)
-      go true = ap (λ (b : Bool). cond b (recovered q (doubles_of rows)) (Refused 61)) e
+      go : (b : Bool) → (cond b (stepped w s (doubles_of rows)) (record { walk = w; answer = Err 10 })).answer ≡ cond b (recovered q (doubles_of rows)) (Err 10)
+      go true = ap (λ (b : Bool). cond b (recovered q (doubles_of rows)) (Err 61)) e
       go false = refl
 
   -- a full one refuses, with 61 or before that with 10
@@ -53,8 +53,8 @@ module _ (w : Walk) (s : Station) (rows : List ℕ) where
   unfolding stepped_bytes stepped step_answer
   full_refuses e = go (in_eights rows)
     where
-      go : (b : Bool) → number_of (cond b (stepped w s (doubles_of rows)) (record { walk = w; answer = Refused 10 })).answer ≡ 0 → ⊥
-      go true z = omega (arith, sym (ap (λ (b : Bool). number_of (cond b (recovered q (doubles_of rows)) (Refused 61))) e) ∙ z)
+      go : (b : Bool) → number_of (cond b (stepped w s (doubles_of rows)) (record { walk = w; answer = Err 10 })).answer ≡ 0 → ⊥
+      go true z = omega (arith, sym (ap (λ (b : Bool). number_of (cond b (recovered q (doubles_of rows)) (Err 61))) e) ∙ z)
       go false z = omega (arith, z)
 
 module _ (old : List ℕ) (lower upper cap : ℕ) (rows : List ℕ) where

@@ -1,10 +1,9 @@
 -- What the t to s entries leave: the reply to the answer, and the output.
-use Rattle.std.specs.Prelude.{ℕ, ◌*◌, ◌≡◌, Bool, not, List, eqb, length, Float}
+use Rattle.std.specs.Prelude.{ℕ, ◌*◌, ◌≡◌, Bool, not, List, eqb, length, Ok, Err, Float}
 use Rattle.loops.specs.Upto.{filled}
 use Rattle.refusals.specs.Refusals.{only_if}
 use Rattle.refusals.specs.Outcome.{answered}
 use Rattle.following.specs.declared.pass.Counts.{Counts}
-use Rattle.sampling.specs.declared.samples.Sampled.TheVariants.{Done, Refused}
 use Rattle.gridding.specs.Grid.{grid_entry, grid_entries, grid_counts, grid_byte_no}
 use Rattle.byte_lists.specs.Bytes.{doubles_of, byte_of}
 use Rattle.sampling.specs.List.{list_counts, list_station, list_byte_no}
@@ -13,7 +12,7 @@ use Rattle.replies.specs.CountsTold.{Counted}
 -- what a call leaves: its number and counts, and the bytes of the first n entries at the front of the output
 pub record Tallied (done : Counts) (refusal : ℕ) (entry : ℕ → Float) (n : ℕ) (old : List ℕ)
     (number before₀ before inside₀ inside past₀ past written₀ written : ℕ) (new : List ℕ) : Type 0 where
-  pub counted : Counted (answered (Done done) Refused refusal) number before₀ before inside₀ inside past₀ past written₀ written
+  pub counted : Counted (answered (Ok done) Err refusal) number before₀ before inside₀ inside past₀ past written₀ written
   pub left : new ≡ only_if refusal (filled (byte_of entry) (8 * n) old) old
 
 -- of a sample list

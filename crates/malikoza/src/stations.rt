@@ -7,6 +7,7 @@ ghost use Rattle.malikoza.specs.Stations.{ListTallied, GridTallied, yes};
 
 use gridding::grid::t_to_s_topp2_grid;
 use patterns::pattern::double_of;
+use refusals::refusal::number_in;
 use replies::samples::tell;
 use sampling::list::t_to_s_topp2_list;
 use sloping::slopes::a_to_b_topp2;
@@ -16,14 +17,14 @@ use timing::times::s_to_t_topp2;
 pub fn malikoza_a_to_b(s: &[u8], a: &[u8], out: &mut [u8]) -> u64
     ensures { ByteSlopes s.now a.now out.old result out.new }
 {
-    a_to_b_topp2(s, a, out)
+    number_in(&a_to_b_topp2(s, a, out))
 }
 
 // One entry for each station.
 pub fn malikoza_s_to_t(s: &[u8], a: &[u8], t0: u64, out: &mut [u8]) -> u64
     ensures { ByteTimes s.now a.now (of_bits binary64 t0) out.old result out.new }
 {
-    s_to_t_topp2(s, a, double_of(t0), out)
+    number_in(&s_to_t_topp2(s, a, double_of(t0), out))
 }
 
 // One entry for each sample.

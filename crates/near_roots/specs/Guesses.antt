@@ -1,8 +1,6 @@
--- What is said of a guess at v: where it is called right, it is v.
-use Rattle.std.specs.Prelude.{◌≡◌, true, T, Float}
-use Rattle.near_roots.specs.declared.guess.Guess.{Guess}
-use Rattle.near_roots.specs.declared.guess.Guess.TheVariants.{Right, Unknown}
+-- What is said of a guess at v: where there is one, it is v; where there is none, nothing is known.
+use Rattle.std.specs.Prelude.{◌≡◌, true, T, Option, Some, None, Float}
 
-abbrev pub OnlyRight : Float → Guess → Type 0
-OnlyRight v (Right x) = x ≡ v
-OnlyRight v Unknown = T true
+abbrev pub OnlyRight : Float → Option Float → Type 0
+OnlyRight v (Some x) = x ≡ v
+OnlyRight v None = T true

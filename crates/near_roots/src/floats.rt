@@ -20,7 +20,7 @@ fn nearer(s: f64, d: f64) -> f64 {
 // Near the root of h / 2^32. A large number added and taken off again leaves s so short that its square is exact.
 pub(crate) fn of_whole(h: u64) -> f64 {
     let f = (h >> 32) as f64;
-    let s = rough(f, f64::to_bits(f)) + 3298534883328.0 - 3298534883328.0;
+    let s = rough(f, f.to_bits()) + 3298534883328.0 - 3298534883328.0;
     nearer(s, s * s - f - (h % 0x1_0000_0000) as f64 / 4294967296.0)
 }
 

@@ -2,7 +2,6 @@
 #![tactic(auto)]
 
 mod floats;
-pub mod guess;
 pub mod length;
 mod nearest;
 pub mod square_root;

@@ -13,5 +13,5 @@ pub(crate) fn is_nearest(h: u64, u: u64, p: u64) -> bool
     let s = u >> p;
     let w = (s >> 53 >> p) - 3;
     let q = wide::product(s, s).hi;
-    std::num::wrapping_add_u64(std::num::wrapping_sub_u64(q, h), w) < 2 * w
+    q.wrapping_sub(h).wrapping_add(w) < 2 * w
 }

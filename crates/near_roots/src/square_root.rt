@@ -4,7 +4,6 @@ ghost use Rattle.std.specs.Float.{binary64};
 ghost use Rattle.exact_roots.specs.Root.{sqrt_of};
 ghost use Rattle.near_roots.specs.Guesses.{OnlyRight};
 
-use crate::guess::Guess;
 use crate::{floats, nearest};
 use rounding::packing;
 
@@ -14,10 +13,10 @@ fn is_root(b: u64, g: f64) -> bool
     requires { (2 ^ 52 ≤ b) × (b < 0x7ff0_0000_0000_0000) }
     ensures { result ≡ true → g ≡ sqrt_of binary64 (from_bits binary64 b) }
 {
-    if g != g {
+    if g.is_nan() {
         return false;
     }
-    let c = f64::to_bits(g);
+    let c = g.to_bits();
     let k = b >> 52;
     if c >> 52 != (k + 1023) / 2 {
         return false;
@@ -28,17 +27,17 @@ fn is_root(b: u64, g: f64) -> bool
 }
 
 // A guess at the root of x. Subnormal values, which have fewer digits than are tested, are left out.
-pub fn guessed(x: f64) -> Guess
+pub fn guessed(x: f64) -> Option<f64>
     ensures { OnlyRight (sqrt_of binary64 x) result }
 {
     if x >= 2.2250738585072014e-308 {
-        let b = f64::to_bits(x);
+        let b = x.to_bits();
         if b < 0x7ff0_0000_0000_0000 {
             let g = floats::of_pattern(b);
             if is_root(b, g) {
-                return Guess::Right(g);
+                return Some(g);
             }
         }
     }
-    Guess::Unknown
+    None
 }

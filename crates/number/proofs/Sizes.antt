@@ -1,17 +1,16 @@
 -- What the tests of one value's size say. What is finite, taken from itself, leaves zero. The absolute value is the greater of
 -- the value and of what it leaves of +0. The whole part is 0 below 1, and 2 ^ w - 1 from 2 ^ w up. Assumes nothing.
-use Rattle.std.proofs.Common.{◌≡◌, ℕ, zero, suc, ◌+◌, ◌-◌, ◌*◌, ◌/◌, ◌^◌, ◌<◌, ◌≤◌, Bool, true, false, not, ◌&&◌, T, ℤ, pos, sym, refl, ap, ◌∙◌, inl, inr, true≢false, zero-lt-suc, mul-pos, one-mul, le-div_iff_mul-le, zero-add, zero-mul, mul-one, arith, pow_pos}
+use Rattle.std.proofs.Common.{◌≡◌, ℕ, zero, suc, ◌+◌, ◌-◌, ◌*◌, ◌<◌, Bool, true, false, not, ◌&&◌, T, ℤ, pos, sym, refl, ap, ◌∙◌, inl, inr, true≢false, zero-lt-suc, mul-pos, one-mul, zero-add, zero-mul, mul-one, arith}
 use mathlib.Core.Bool.{false≢true}
-use native.Mathlib.Nat.{div-eq_of_lt}
-use lib.Ieee.{Float, nan, inf, fin, Format, up, down, round, sum, sub, le, lt, eq, fits, to_unsigned}
+use lib.Ieee.{Float, nan, inf, fin, Format, up, down, round, sum, sub, lt, eq, fits}
 use lib.Ieee.Fits.{up_pos, down_pos}
 use lib.Ieee.Bits.{is_true}
 use lib.Ieee.Scale.{finite}
 use Rattle.number.specs.Leaves.{absolute}
 use Rattle.number.proofs.Patterns.{round_self}
-use Rattle.number.proofs.Fractions.{plus_of, minus_of, le→AtMost, AtMost→le, lt→Below, Below→lt}
-use Rattle.number.proofs.Order.{below_zero, holds, fails, number, nought, greatest, no_less, not_infinite}
-use Rattle.number.proofs.Order.{eq_le, eq_ge, le_transitive, le_antisymmetric, lt_not_le, le_lt_transitive, le_number, lt_or_le}
+use Rattle.number.proofs.Fractions.{plus_of, minus_of, AtMost→le, Below→lt}
+use Rattle.number.proofs.Order.{below_zero, holds, fails, nought}
+use Rattle.number.proofs.Order.{eq_le, eq_ge, le_transitive, le_antisymmetric, lt_not_le, le_lt_transitive}
 use Rattle.number.proofs.Monotone.{sub_number, sub_turns}
 use Rattle.number.proofs.Rounded.{Rounds, zero_equals, sum_rounds}
 
@@ -114,33 +113,3 @@ absolute_turned f (inf false) F h = absurd (true≢false h)
 absolute_turned f (fin true m e) F h = leaves_size f m e F
 absolute_turned f (fin false zero e) F h = leaves_zero f e F
 absolute_turned f (fin false (suc m) e) F h = absurd (fails h (leaves_less f m e))
-
--- ---- the whole part
-
--- 2 ^ w
-abbrev pub power : ℕ → Float
-power w = fin false 1 (pos w)
-
-pub whole_below_one : (w : ℕ) (x : Float) → (T (le (power 0) x) → ⊥) → 0 ≡ to_unsigned w x
-unfolding to_unsigned
-whole_below_one w nan h = refl
-whole_below_one w (inf true) h = refl
-whole_below_one w (inf false) h = absurd (h (greatest (power 0) tt))
-whole_below_one w (fin true m e) h = refl
-whole_below_one w (fin false m e) h = elim (lt_or_le (fin false m e) (power 0) tt tt) [
-  | inl l ↦ rw (div-eq_of_lt {n = m * up e} {m = down e} (omega (arith, lt→Below (fin false m e) (power 0) tt tt l))) (omega arith)
-  | inr g ↦ absurd (h g)
-]
-
-whole_from : (w : ℕ) (x : Float) → T (le (power w) x) → 2 ^ w - 1 ≡ to_unsigned w x
-unfolding to_unsigned
-whole_from w nan h = absurd (le_number (power w) nan h).1
-whole_from w (inf true) h = absurd (not_infinite false 1 (pos w) true (no_less (power w) h))
-whole_from w (inf false) h = refl
-whole_from w (fin true m e) h = absurd (omega (arith, mul-pos (pow_pos w) (down_pos e), le→AtMost (power w) (fin true m e) tt tt h))
-whole_from w (fin false m e) h =
-    let q : 2 ^ w ≤ m * up e / down e = (le-div_iff_mul-le (down_pos e)).1 (omega (arith, le→AtMost (power w) (fin false m e) tt tt h)) in
-    omega arith
-
-pub whole_cut : (w : ℕ) (x : Float) → T (number x) → (T (lt x (power w)) → ⊥) → 2 ^ w - 1 ≡ to_unsigned w x
-whole_cut w x X h = elim (lt_or_le x (power w) X tt) [ inl l ↦ absurd (h l) | inr g ↦ whole_from w x g ]

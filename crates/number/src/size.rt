@@ -22,11 +22,5 @@ pub fn absolute(x: f64) -> f64
 pub fn whole_part(x: f64) -> u64
     ensures { result ≡ whole_part x }
 {
-    if x >= 1.0 {
-        if x < 18446744073709551616.0 {
-            return std::num::truncating_f64_to_u64(x);
-        }
-        return 18446744073709551615;
-    }
-    0
+    std::num::saturating_f64_to_u64(x)
 }

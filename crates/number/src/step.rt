@@ -8,14 +8,13 @@ pub fn next_down(x: f64) -> f64
     ensures { result ≡ next_down binary64 x }
 {
     if x > 0.0 {
-        return f64::from_bits(f64::to_bits(x) - 1);
+        return f64::from_bits(x.to_bits() - 1);
     }
     if x == 0.0 {
         return f64::from_bits(0x8000_0000_0000_0001);
     }
-    let infinity = 1.0 / 0.0;
-    if x > -infinity {
-        return f64::from_bits(f64::to_bits(x) + 1);
+    if x > f64::NEG_INFINITY {
+        return f64::from_bits(x.to_bits() + 1);
     }
     x
 }

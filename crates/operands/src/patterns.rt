@@ -18,28 +18,20 @@ pub fn special(b: u64) -> bool
     ensures { result ≡ is_special (from_bits binary64 b) }
 {
     let p = b % 0x8000_0000_0000_0000;
-    if p == 0 {
-        return true;
-    }
-    p >= 0x7ff0_0000_0000_0000
+    p == 0 || p >= 0x7ff0_0000_0000_0000
 }
 
 // Whether a pattern is a normal value's.
 fn normal(b: u64) -> bool
     ensures { result ≡ is_normal b }
 {
-    std::num::wrapping_sub_u64((b >> 52) % 2048, 1) < 2046
+    ((b >> 52) % 2048).wrapping_sub(1) < 2046
 }
 
 pub fn all_normal(a: u64, b: u64, c: u64) -> bool
     ensures { result ≡ (is_normal a && (is_normal b && is_normal c)) }
 {
-    if normal(a) {
-        if normal(b) {
-            return normal(c);
-        }
-    }
-    false
+    normal(a) && normal(b) && normal(c)
 }
 
 // The parts of three patterns. Most often all are normal, and no more than that is tested. Else each is unpacked by itself, where the count of leading

@@ -1,27 +1,19 @@
 -- The halvings of recovery: they start between the middle, which passes, and the projected upper end, which was rejected,
 -- and end with a passing double and a rejected one that have no double between them. Assumes nothing.
-use mathlib.Core.Path.{◌≡◌, refl, sym, ap, subst}
-use mathlib.Core.Logic.{◌⊎◌, inl, inr}
-use mathlib.Core.List.{List}
-use mathlib.Core.Bool.{Bool, true, false, not, ◌||◌}
-use Prim.Native.Nat.{ℕ, suc, ◌+◌, ◌^◌, ◌≤◌}
-use lib.Dec.{T, T_not}
+use Rattle.std.proofs.Common.{◌≡◌, refl, sym, ap, subst, Some, None, ◌⊎◌, inl, inr, List, Bool, true, false, not, ◌||◌, ℕ, suc, ◌+◌, ◌^◌, ◌≤◌, T, T_not}
 use lib.Ieee.{Float, binary64, prec, size, of_bits, add, mul, le, lt, eq, fits}
 use lib.Ieee.Positive.{between}
 use Rattle.number.proofs.Fractions.{or_l, or_r, or_split}
 use Rattle.number.proofs.Order.{holds, fails, le_number, lt_le, eq_le, eq_ge, le_transitive, le_antisymmetric, lt_not_le, lt_or_le}
 use Rattle.rows.specs.Rows.{Row}
 use Rattle.number.specs.Doubles as doubles
-use Rattle.certificates.specs.Certificate.{passes, certificate}
-use Rattle.search.specs.Search.{middle, stops, replaced, halved}
+use Rattle.certificates.specs.Certificate.{passes, Certificate, certificate}
+use Rattle.search.specs.Search.{Ends, middle, stops, replaced, halved}
 use Rattle.limits.specs.declared.request.Request.{Request}
-use Rattle.search.specs.declared.halving.Ends.{Ends}
-use Rattle.certificates.specs.declared.certificate.Certificate.{Certificate}
-use Rattle.certificates.specs.declared.certificate.Certificate.TheVariants.{Passed, Failed}
 use Rattle.passing.proofs.Digits.{rnd}
 use Rattle.passing.proofs.Mean.{bound, settle}
 use Rattle.passing.proofs.Middle.{half, mean}
-use Rattle.passing.proofs.Gaps.{None, Gap, one_step, from_lower, upto_upper, inside, gap_above, gap_below}
+use Rattle.passing.proofs.Gaps.{NoneBetween, Gap, one_step, from_lower, upto_upper, inside, gap_above, gap_below}
 use Rattle.certificates.proofs.Verdicts.{verdict, verdict_is}
 
 -- the program's 1/2, and so its midpoint
@@ -50,7 +42,7 @@ module _ (z : ℕ) (e : Ends) (t : ℕ) (G : Gap binary64 z e.passing e.rejected
   m = middle x y
 
   -- then nothing lies between
-  stopped : T (stops e) → None binary64 x y
+  stopped : T (stops e) → NoneBetween binary64 x y
   unfolding stops
   stopped h g H l k =
       let i : T (lt x m) × T (lt m y) = subst (λ (v : Float). T (lt x v) × T (lt v y)) (sym (middle_is x y)) (inside binary64 tie z x y t G g H l k) in
@@ -85,7 +77,7 @@ module _ (q : Request) (rows : List Row) (high : Float) where
     pub order : T (lt e.passing e.rejected)
     pub empty : (g : Float) → T (fits binary64 g) → T (lt e.passing g) → T (lt g e.rejected) → ⊥
 
-  ended : (z : ℕ) (e : Ends) (t : ℕ) → Bracket z e t → None binary64 e.passing e.rejected → Ended e
+  ended : (z : ℕ) (e : Ends) (t : ℕ) → Bracket z e t → NoneBetween binary64 e.passing e.rejected → Ended e
   ended z e t B N =
       let G = B.gap in
       record {
@@ -112,7 +104,7 @@ module _ (q : Request) (rows : List Row) (high : Float) where
       i = subst (λ (v : Float). T (lt e.passing v) × T (lt v e.rejected)) (middle_is e.passing e.rejected) (going z e t B.gap h)
 
       go : (c : Certificate) → verdict c ≡ passes q rows m → (s : ℕ) × Bracket z (replaced e m c) s × (s ≤ bound n)
-      go (Passed a r) v =
+      go (Some f) v =
           let g = gap_above binary64 tie z e.passing e.rejected t B.gap i.0 i.1 in (
             g.0,
             record {
@@ -123,7 +115,7 @@ module _ (q : Request) (rows : List Row) (high : Float) where
             },
             settle (bound n) g.0 t b g.2 g.3,
           )
-      go Failed v =
+      go None v =
           let g = gap_below binary64 tie z e.passing e.rejected t B.gap i.0 i.1 in (
             g.0,
             record {

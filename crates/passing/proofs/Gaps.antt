@@ -13,8 +13,8 @@ use Rattle.passing.proofs.Mean.{halves_between, unit_le, Closer, closer}
 use Rattle.passing.proofs.Middle.{Held, units_at, units_short, at_le, at_lt, lt_at, some_digits, mean, Mean, mean_of}
 
 -- no value of the format lies strictly between
-abbrev pub None : Format → Float → Float → Type 0
-None f x y = (g : Float) → Held f g → T (lt x g) → T (lt g y) → ⊥
+abbrev pub NoneBetween : Format → Float → Float → Type 0
+NoneBetween f x y = (g : Float) → Held f g → T (lt x g) → T (lt g y) → ⊥
 
 -- z ≤ x < y ≤ 2z, with at most t steps of what z is rounded to between them
 pub record Gap (f : Format) (z : ℕ) (x y : Float) (t : ℕ) : Type 0 where
@@ -26,7 +26,7 @@ pub record Gap (f : Format) (z : ℕ) (x y : Float) (t : ℕ) : Type 0 where
   pub steps : units_of f y ≤ units_of f x + t * 2 ^ cut (prec f) z
 
 -- one step holds nothing
-pub one_step : (f : Format) (z : ℕ) (x y : Float) (t : ℕ) → Gap f z x y t → t ≤ 1 → None f x y
+pub one_step : (f : Format) (z : ℕ) (x y : Float) (t : ℕ) → Gap f z x y t → t ≤ 1 → NoneBetween f x y
 one_step f z x y t G h g H l k =
     let u = 2 ^ cut (prec f) z in
     let p = lt_at f x g (units_of f x) (units_of f g) (units_at f x G.lower) (units_at f g H) l in

@@ -1,10 +1,5 @@
 -- Demand 3: "If its speed isn't the cap and the projected upper end is at least 2^-1021, that speed is the greatest passing double not above that end." Assumes nothing.
-use mathlib.Core.Path.{◌≡◌, refl, sym, subst}
-use mathlib.Core.Logic.{inl, inr}
-use mathlib.Core.List.{List}
-use mathlib.Core.Bool.{false, not}
-use Prim.Native.Nat.{ℕ, ◌+◌, ◌^◌}
-use lib.Dec.{T, T_not, lit≤}
+use Rattle.std.proofs.Common.{◌≡◌, refl, sym, subst, Ok, Err, inl, inr, List, false, not, ℕ, ◌+◌, ◌^◌, T, T_not, lit≤}
 use lib.Ieee.{Float, binary64, le, lt, fits}
 use lib.Ieee.Scale.{finite}
 use Rattle.number.specs.Leaves.{next_down}
@@ -15,13 +10,11 @@ use Rattle.rows.specs.Rows.{Row, rows_of}
 use Rattle.limits.specs.Bounds.{upper}
 use Rattle.limits.specs.Projection.{projected}
 use Rattle.certificates.specs.Certificate.{passes, certificate}
-use Rattle.search.specs.Search.{middle}
+use Rattle.search.specs.Search.{Ends, middle}
 use Rattle.topp2_ra.specs.Recovery.{recovered}
 use Rattle.limits.specs.declared.request.Request.{Request}
-use Rattle.search.specs.declared.answer.Answer.{Answer}
-use Rattle.search.specs.declared.answer.Answer.TheVariants.{Certified, Refused}
+use Rattle.search.specs.Answer.{Answer, certified}
 use Rattle.limits.specs.declared.projection.Span.{Span}
-use Rattle.search.specs.declared.halving.Ends.{Ends}
 use Rattle.rows.proofs.Within.{finite_above}
 use Rattle.passing.specs.Demand.{Doubles, smallest, Greatest}
 use Rattle.passing.proofs.NoGap.{zero_is, passes_between, no_gap}
@@ -51,8 +44,8 @@ module _ (q : Request) (rows : List Row) where
 
   -- a certified speed that is not the cap is the greatest
   abbrev Answers : Answer → Type 0
-  Answers (Certified x n r t) = (x ≡ upper q → ⊥) → Greatest q rows x
-  Answers (Refused k) = Unit
+  Answers (Ok c) = (c.speed ≡ upper q → ⊥) → Greatest q rows c.speed
+  Answers (Err k) = Unit
 
   in_order : T (finite low) → T (finite high) → T (not (lt high low)) → T (le low high)
   in_order L F o = elim (lt_or_le high low (finite_number high F) (finite_number low L)) [ inl l ↦ absurd (T_not (lt high low) o l) | inr g ↦ g ]
@@ -128,14 +121,14 @@ module _ (q : Request) (rows : List Row) where
       Halving = Carried q rows high;
       first = record { fit = high_fits q D rows; not_above = le_reflexive high (finite_number high F); covers = λ y G p h. h };
       next = λ x t U b f. next x U (from_low x U b) (failed q rows x f);
-      found = λ x n r t U e a b cap. found x (passed q rows x n r e) U;
-      start = λ n r t f e a b. (units_of binary64 (middle low high), 2 ^ 53, start n r (t + 1) (failed q rows high f) (passed q rows (middle low high) n r e), lit≤ tt);
+      found = λ x n r t U e a b cap. found x (passed q rows x _ e) U;
+      start = λ n r t f e a b. (units_of binary64 (middle low high), 2 ^ 53, start n r (t + 1) (failed q rows high f) (passed q rows (middle low high) _ e), lit≤ tt);
       halve = carried_on q rows high;
       ended = λ k e w b cap. ended_greatest e (carried_end q rows high k e w b);
     }
 
 -- "that speed is the greatest passing double not above that end"
-pub greatest : (q : Request) (l : List Float) (x n r : Float) (t : ℕ) → Doubles q → recovered q l ≡ Certified x n r t
+pub greatest : (q : Request) (l : List Float) (x n r : Float) (t : ℕ) → Doubles q → recovered q l ≡ Ok (certified x n r t)
     → (x ≡ upper q → ⊥) → T (le smallest (projected q (rows_of l)).high) → Greatest q (rows_of l) x
 greatest q l x n r t D e cap large =
     let rows = rows_of l in

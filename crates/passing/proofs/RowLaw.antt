@@ -1,7 +1,6 @@
 -- Demand 3: "If two lists of at most 256 whole rows hold the same rows, in any order or number, recovery answers the same bits." Assumes nothing.
-use mathlib.Core.Path.{◌≡◌, refl, ap, ap₂, fun_ext}
-use mathlib.Core.List.{List}
-use lib.Dec.{T}
+use Rattle.std.proofs.Common.{◌≡◌, refl, ap, ap₂, Some, None, List, T}
+use mathlib.Core.Path.{fun_ext}
 use lib.Ieee.{Float, binary64}
 use lib.Ieee.Bits.{of_bits-fits}
 use Rattle.number.specs.Leaves.{minimum, maximum}
@@ -12,7 +11,7 @@ use Rattle.rows.proofs.Within.{one_truth}
 use Rattle.number.specs.Doubles as doubles
 use Rattle.limits.specs.Bounds.{lower, upper}
 use Rattle.rows.specs.Row.{admits}
-use Rattle.certificates.specs.Certificate.{passes, worse_normalized, worse_raw, certificate}
+use Rattle.certificates.specs.Certificate.{passes, worse_normalized, worse_raw, Certificate, certificate}
 use Rattle.search.specs.Search.{Asked, searched}
 use Rattle.limits.specs.Projection.{narrowed, projected, unreachable, flat}
 use Rattle.rows.specs.Row.{rows_no}
@@ -21,8 +20,6 @@ use Rattle.topp2_ra.specs.Recovery.{request_no, recovered}
 use Rattle.rows.specs.Row.{unfit, unmeetable}
 use Rattle.limits.specs.declared.request.Request.{Request}
 use Rattle.limits.specs.declared.projection.Span.{Span}
-use Rattle.certificates.specs.declared.certificate.Certificate.{Certificate}
-use Rattle.certificates.specs.declared.certificate.Certificate.TheVariants.{Passed, Failed}
 use Rattle.passing.specs.Demand.{SameRows, Doubles}
 use Rattle.passing.proofs.Gathered.{any_same, all_same, fold_rows}
 use Rattle.passing.proofs.Brought.{as_normalized, as_raw, as_low, as_high, brings_normalized, brings_raw, brings_low, brings_high}
@@ -64,8 +61,8 @@ module _ (q : Request) (l m : List Row) (to : Within l m) (back : Within m l) wh
 
   cap_same : Doubles q → (c : Certificate) → after_cap q l c ≡ after_cap q m c
   unfolding after_cap
-  cap_same D (Passed n r) = refl
-  cap_same D Failed = rw (any_same (unreachable tol a) l m to back, any_same (flat tol a) l m to back, projected_same D, searched_same (projected q m))
+  cap_same D (Some f) = refl
+  cap_same D None = rw (any_same (unreachable tol a) l m to back, any_same (flat tol a) l m to back, projected_same D, searched_same (projected q m))
 
   capped_same : Doubles q → with_cap q l ≡ with_cap q m
   unfolding with_cap

@@ -1,10 +1,6 @@
 -- Whatever recovery certifies passes, and is a double; no refusal has the number 0; and from 1 to 71 candidates are tried:
 -- the cap, up to five from the projected end down, the middle, and at most 64 halvings. Assumes nothing.
-use Prim.Native.Nat.{ℕ, zero, suc, ◌+◌, ◌≤◌}
-use mathlib.Core.Path.{◌≡◌, refl, subst}
-use mathlib.Core.List.{List}
-use native.Mathlib.Omega.{arith}
-use lib.Dec.{T}
+use Rattle.std.proofs.Common.{ℕ, zero, suc, ◌+◌, ◌≤◌, ◌≡◌, refl, subst, Some, None, Ok, Err, List, arith, T}
 use lib.Ieee.{Float, binary64, fits}
 use lib.Ieee.Fits.{add-fits}
 use Rattle.number.specs.Leaves.{next_down}
@@ -13,13 +9,9 @@ use Rattle.rows.specs.Rows.{Row, rows_of}
 use Rattle.limits.specs.Bounds.{upper}
 use Rattle.limits.specs.Projection.{projected}
 use Rattle.limits.specs.declared.request.Request.{Request}
-use Rattle.certificates.specs.Certificate.{passes, certificate}
-use Rattle.certificates.specs.declared.certificate.Certificate.{Certificate}
-use Rattle.certificates.specs.declared.certificate.Certificate.TheVariants.{Passed, Failed}
-use Rattle.search.specs.Search.{Asked, middle, replaced, halved}
-use Rattle.search.specs.declared.halving.Ends.{Ends}
-use Rattle.search.specs.declared.answer.Answer.{Answer}
-use Rattle.search.specs.declared.answer.Answer.TheVariants.{Certified, Refused}
+use Rattle.certificates.specs.Certificate.{passes, figures, Certificate, certificate}
+use Rattle.search.specs.Search.{Asked, Ends, middle, replaced, halved}
+use Rattle.search.specs.Answer.{Answer, certified}
 use Rattle.search.proofs.Turns.{halved_tried}
 use Rattle.topp2_ra.specs.Recovery.{recovered}
 use Rattle.passing.specs.Demand.{Doubles, Sound}
@@ -29,28 +21,28 @@ use Rattle.passing.proofs.Ways.{by_recovery}
 use Rattle.passing.proofs.Reports.{Reported}
 
 -- the passing end after a halving: the midpoint, where it passes, or the end that it was
-replaced_end : (Q : Float → Type 0) (e : Ends) (m : Float) (c : Certificate) → ((n r : Float) → c ≡ Passed n r → Q m) → Q e.passing → Q (replaced e m c).passing
+replaced_end : (Q : Float → Type 0) (e : Ends) (m : Float) (c : Certificate) → ((n r : Float) → c ≡ Some (figures n r) → Q m) → Q e.passing → Q (replaced e m c).passing
 unfolding replaced
-replaced_end Q e m (Passed n r) h k = h n r refl
-replaced_end Q e m Failed h k = k
+replaced_end Q e m (Some f) h k = h f.worst_normalized f.worst_raw refl
+replaced_end Q e m None h k = k
 
 halved_end : (Q : Float → Type 0) (cert : Asked) (e : Ends)
-    → ((n r : Float) → cert (middle e.passing e.rejected) ≡ Passed n r → Q (middle e.passing e.rejected)) → Q e.passing
+    → ((n r : Float) → cert (middle e.passing e.rejected) ≡ Some (figures n r) → Q (middle e.passing e.rejected)) → Q e.passing
     → Q (halved cert e).passing
 unfolding halved
 halved_end Q cert e h k = let m = middle e.passing e.rejected in replaced_end Q e m (cert m) h k
 
 -- of the speed, where there is one
 abbrev Speed : (Float → Type 0) → Answer → Type 0
-Speed Q (Certified x n r t) = Q x
-Speed Q (Refused k) = Unit
+Speed Q (Ok c) = Q c.speed
+Speed Q (Err k) = Unit
 
 module _ (q : Request) (l : List Float) where
   abbrev rows : List Row
   rows = rows_of l
 
   -- what every candidate has that passes, among those that have R, as the cap, the projected end, all neighbours and all midpoints have
-  speed_has : (Q R : Float → Type 0) → ((x n r : Float) → R x → certificate q rows x ≡ Passed n r → Q x) → R (upper q) → R (projected q rows).high
+  speed_has : (Q R : Float → Type 0) → ((x n r : Float) → R x → certificate q rows x ≡ Some (figures n r) → Q x) → R (upper q) → R (projected q rows).high
       → ((x : Float) → R x → R (next_down binary64 x)) → ((x y : Float) → R (middle x y)) → Speed Q (recovered q l)
   speed_has Q R is cap high next mid =
       by_recovery (Speed Q) (λ k. tt) q l (λ n r e. is (upper q) n r cap e) (λ L F o. record {
@@ -65,7 +57,7 @@ module _ (q : Request) (l : List Float) where
       })
 
   passing : Speed (λ x. T (passes q rows x)) (recovered q l)
-  passing = speed_has (λ x. T (passes q rows x)) (λ x. Unit) (λ x n r u e. passed q rows x n r e) tt tt (λ x u. tt) (λ x y. tt)
+  passing = speed_has (λ x. T (passes q rows x)) (λ x. Unit) (λ x n r u e. passed q rows x _ e) tt tt (λ x u. tt) (λ x y. tt)
 
   double : Doubles q → Speed (λ x. T (fits binary64 x)) (recovered q l)
   double D =
@@ -73,8 +65,8 @@ module _ (q : Request) (l : List Float) where
       (upper_fits q D) (high_fits q D rows) (λ x w. next_fits binary64 x w) (λ x y. add-fits binary64 _ _)
 
   abbrev TriedIn : Answer → Type 0
-  TriedIn (Certified x n r t) = (1 ≤ t) × (t ≤ 71)
-  TriedIn (Refused k) = Unit
+  TriedIn (Ok c) = (1 ≤ c.tried) × (c.tried ≤ 71)
+  TriedIn (Err k) = Unit
 
   tried_in : TriedIn (recovered q l)
   tried_in =
@@ -90,9 +82,9 @@ module _ (q : Request) (l : List Float) where
       })
 
   abbrev Numbered : Answer → Type 0
-  Numbered (Certified x n r t) = Unit
-  Numbered (Refused zero) = ⊥
-  Numbered (Refused (suc k)) = Unit
+  Numbered (Ok c) = Unit
+  Numbered (Err zero) = ⊥
+  Numbered (Err (suc k)) = Unit
 
   numbered : Numbered (recovered q l)
   numbered =
@@ -108,10 +100,10 @@ module _ (q : Request) (l : List Float) where
       })
 
   -- no refusal has the number 0
-  pub refusal_numbered : recovered q l ≡ Refused 0 → ⊥
+  pub refusal_numbered : recovered q l ≡ Err 0 → ⊥
   refusal_numbered e = subst Numbered e numbered
 
-  pub speed_double : (x n r : Float) (t : ℕ) → Doubles q → recovered q l ≡ Certified x n r t → T (fits binary64 x)
+  pub speed_double : (x n r : Float) (t : ℕ) → Doubles q → recovered q l ≡ Ok (certified x n r t) → T (fits binary64 x)
   speed_double x n r t D e = subst (Speed (λ x. T (fits binary64 x))) e (double D)
 
   pub sound : (number speed tried : ℕ) → Reported q l number speed tried → Sound q l number speed tried

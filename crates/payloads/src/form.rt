@@ -1,35 +1,27 @@
 // What a kind's payload is made of. That a kind is read at all is said here and nowhere else.
 ghost use Rattle.std.specs.Prelude.{◌≡◌};
-ghost use Rattle.payloads.specs.Payload.{form_of, form_number};
+ghost use Rattle.refusals.specs.Refusal.{numbered};
+ghost use Rattle.payloads.specs.Payload.{form_of};
 
 use refusals::most;
+use refusals::refusal::Refusal;
 
-// A count, at most so many, and that many patterns; an even grid; or the refusal of what is no kind.
+// A count, at most so many, and that many patterns; or an even grid.
 #[derive(Clone, Copy)]
 pub enum Form {
     Listed(u64),
     Grid,
-    Refused(u64),
 }
 
-pub fn form_of(kind: u64) -> Form
-    ensures { result ≡ form_of kind }
+// "1 stations, 2 squared speeds, 3 times, 4 even grid, .. 5 samples."
+#[tactic(auto, unfolding(crate::specs::Payload::form_of))]
+pub fn form_of(kind: u64) -> Result<Form, Refusal>
+    ensures { numbered result ≡ form_of kind }
 {
     match kind {
-        1..=3 => Form::Listed(most::STATIONS as u64),
-        4 => Form::Grid,
-        5 => Form::Listed(most::SAMPLES as u64),
-        _ => Form::Refused(42),
-    }
-}
-
-// 0 where the kind is one.
-pub fn form_number(form: Form) -> u64
-    ensures { result ≡ form_number form }
-{
-    match form {
-        Form::Listed(_) => 0,
-        Form::Grid => 0,
-        Form::Refused(number) => number,
+        1..=3 => Ok(Form::Listed(most::STATIONS as u64)),
+        4 => Ok(Form::Grid),
+        5 => Ok(Form::Listed(most::SAMPLES as u64)),
+        _ => Err(Refusal::KindUnknown),
     }
 }

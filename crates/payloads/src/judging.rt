@@ -1,37 +1,29 @@
-// The number of a payload's first fault, 0 for none.
-ghost use Rattle.std.specs.Prelude.{◌≡◌, ◌*◌, ◌-◌, eqb, get_or};
+// A payload's first fault.
+ghost use Rattle.std.specs.Prelude.{◌≡◌, ◌*◌, eqb, get_or};
+ghost use Rattle.refusals.specs.Refusal.{number_in, numbered};
 ghost use Rattle.payloads.specs.Payload.{count_number, grid_number, payload_number};
 
 use crate::form::Form;
-use groups::Number;
-use refusals::chain::{or, unless};
-
-fn rest(end: usize, next: usize) -> u64
-    ensures { result ≡ end - next }
-{
-    if next <= end { (end - next) as u64 } else { 0 }
-}
+use groups::{Fault, Number};
+use refusals::refusal::Refusal;
 
 fn are_eights(bytes: u64, count: u64) -> bool
     ensures { result ≡ eqb bytes (8 * count) }
 {
-    if bytes % 8 == 0 {
-        bytes / 8 == count
-    } else {
-        false
-    }
+    bytes % 8 == 0 && bytes / 8 == count
 }
 
-fn count_number(limit: u64, end: usize, found: Number) -> u64
-    ensures { result ≡ count_number limit end found }
+#[tactic(auto, unfolding(crate::specs::Payload::count_number))]
+fn count_number(limit: u64, end: usize, found: Result<Number, Fault>) -> Result<(), Refusal>
+    ensures { number_in result ≡ count_number limit end found }
 {
     match found {
-        Number::Read { value, next } => {
-            let ragged = unless(are_eights(rest(end, next), value), 45);
-            or(unless(value <= limit, 45), ragged)
+        Ok(Number { value, next }) => {
+            Refusal::PayloadForm.unless(value <= limit)?;
+            Refusal::PayloadForm.unless(are_eights(end.saturating_sub(next) as u64, value))
         }
-        Number::Cut => 45,
-        Number::Faulty => 41,
+        Err(Fault::Cut) => Err(Refusal::PayloadForm),
+        Err(Fault::Faulty) => Err(Refusal::FileNumber),
     }
 }
 
@@ -39,26 +31,29 @@ fn count_number(limit: u64, end: usize, found: Number) -> u64
 fn byte(file: &[u8], at: usize) -> u8
     ensures { result ≡ get_or file.now at 0 }
 {
-    if at < file.len() { file[at] } else { 0 }
+    file.get(at).copied().unwrap_or(0)
 }
 
-fn grid_number(file: &[u8], start: usize, end: usize) -> u64
-    ensures { result ≡ grid_number file.now start end }
+#[tactic(auto, unfolding(crate::specs::Payload::grid_number))]
+fn grid_number(file: &[u8], start: usize, end: usize) -> Result<(), Refusal>
+    ensures { number_in result ≡ grid_number file.now start end }
 {
-    if rest(end, start) == 17 {
-        unless(byte(file, start + 16) <= 1, 45)
-    } else {
-        45
-    }
+    Refusal::PayloadForm.unless(end.saturating_sub(start) == 17)?;
+    Refusal::PayloadForm.unless(byte(file, start + 16) <= 1)
 }
 
 // Of the payload from one place of a file to another.
-pub fn payload_number(file: &[u8], form: Form, start: usize, end: usize) -> u64
-    ensures { result ≡ payload_number file.now form start end }
+#[tactic(auto, unfolding(crate::specs::Payload::payload_number))]
+pub fn payload_number(
+    file: &[u8],
+    form: Result<Form, Refusal>,
+    start: usize,
+    end: usize,
+) -> Result<(), Refusal>
+    ensures { number_in result ≡ payload_number file.now (numbered form) start end }
 {
-    match form {
+    match form? {
         Form::Listed(limit) => count_number(limit, end, groups::read(file, start, end)),
         Form::Grid => grid_number(file, start, end),
-        Form::Refused(number) => number,
     }
 }

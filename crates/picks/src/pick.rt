@@ -8,14 +8,14 @@ fn negative(x: f64) -> bool
     requires { T (not (is_nan x)) }
     ensures { result ≡ negative x }
 {
-    f64::to_bits(x) >= 0x8000_0000_0000_0000
+    x.to_bits() >= 0x8000_0000_0000_0000
 }
 
 // What a NaN yields: of a NaN and another operand the other one.
 fn other(x: f64, y: f64) -> f64
     ensures { result ≡ cond (is_nan x) y x }
 {
-    if x != x { y } else { x }
+    if x.is_nan() { y } else { x }
 }
 
 // Equal doubles differ at most in a zero's sign.
@@ -29,10 +29,7 @@ pub fn minimum(x: f64, y: f64) -> f64
         return y;
     }
     if x == y {
-        if negative(x) {
-            return x;
-        }
-        return y;
+        return if negative(x) { x } else { y };
     }
     other(x, y)
 }
@@ -47,10 +44,7 @@ pub fn maximum(x: f64, y: f64) -> f64
         return y;
     }
     if x == y {
-        if negative(y) {
-            return x;
-        }
-        return y;
+        return if negative(y) { x } else { y };
     }
     other(x, y)
 }

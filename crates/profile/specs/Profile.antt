@@ -1,5 +1,5 @@
 -- A profile: stations s and squared speeds a, 2 to 4,096 of each.
-use Rattle.std.specs.Prelude.{ℕ, ◌&&◌, List, leb, eqb, length, Float}
+use Rattle.std.specs.Prelude.{ℕ, ◌≤◌, ◌≡◌, ◌&&◌, List, leb, eqb, length, Float}
 use Rattle.std.specs.Float.Ieee.{lt}
 use Rattle.std.specs.Float.Ieee.Scale.{finite}
 use Rattle.loops.specs.Entries.{every_entry, every_pair}
@@ -22,3 +22,9 @@ profile_no s a = lengths_no (length s) (length a) or entries_no s a
 -- 17 and 18
 unfoldable pub speed_no : List Float → ℕ
 speed_no a = unless (every_entry not_below_zero a) 17 or unless (every_pair not_both_zero a) 18
+
+-- n stations and m speeds that pass 11 and 12
+pub record Shaped (n m : ℕ) : Type 0 where
+  pub low : 2 ≤ n
+  pub high : n ≤ most_stations
+  pub same : m ≡ n

@@ -1,3 +1,4 @@
 pub mod Most
 pub mod Refusals
 pub mod Outcome
+pub mod Refusal

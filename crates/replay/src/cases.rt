@@ -1,90 +1,83 @@
 // From case to case. A case begins with its length in bytes and its entry's number; a leaf's has 6 numbers, any other has 22, the lists and the output.
-ghost use Rattle.std.specs.Prelude.{◌≤◌, length};
+ghost use Rattle.std.specs.Prelude.{◌≤◌, ◌<◌, length, IfSome};
 
 use crate::comparing::is_as_recorded;
 use crate::telling;
+use crate::telling::{NONE, Tally};
+use byte_lists::doubles::pattern_at;
+use calls::entry::Entry;
 use std::io;
-use words::bytes::{within, word};
 
 // Whether the places where lists and output end rise from the 22 numbers to the case's own end.
 fn is_whole(case: &[u8]) -> bool {
-    let first = word(case, 12);
-    let third = word(case, 14);
-    let fourth = word(case, 15);
-    if first < 176 {
-        return false;
-    }
-    if word(case, 13) < first {
-        return false;
-    }
-    if third < word(case, 13) {
-        return false;
-    }
-    if fourth < third {
-        return false;
-    }
-    fourth <= word(case, 16) && word(case, 16) == case.len() as u64
+    176 <= pattern_at(case, 12)
+        && (12..16).all(|k| pattern_at(case, k) <= pattern_at(case, k + 1))
+        && pattern_at(case, 16) == case.len() as u64
 }
 
-fn is_case(case: &[u8]) -> bool {
-    let entry = word(case, 1);
-    if entry < 8 {
-        return case.len() == 48;
-    }
-    if entry < 15 {
-        return is_whole(case);
-    }
-    false
-}
-
-// Counts a case of the entry at its place, and one that differs 15 places on.
-fn count(case: &[u8], tally: &mut [u64; 30]) {
-    let entry = within(word(case, 1), 14);
-    tally[entry] = std::num::wrapping_add_u64(tally[entry], 1);
-    if !is_as_recorded(case) {
-        tally[entry + 15] = std::num::wrapping_add_u64(tally[entry + 15], 1);
+// No section of a cut file is recorded.
+fn is_case(entry: Entry, case: &[u8]) -> bool {
+    match entry {
+        Entry::CutFileSection => false,
+        _ if entry.is_leaf() => case.len() == 48,
+        _ => is_whole(case),
     }
 }
 
-// The length of the case that the bytes begin with, or 0 where there is none.
-fn taken(rest: &[u8], tally: &mut [u64; 30]) -> usize
-    ensures { result ≤ length rest.now }
+// Whether the bytes are a case, which is then counted at the place of its entry's number.
+fn is_counted(case: &[u8], tallies: &mut [Tally; 15]) -> bool {
+    let Ok(entry) = Entry::try_from(pattern_at(case, 1)) else {
+        return false;
+    };
+    if !is_case(entry, case) {
+        return false;
+    }
+    if let Some(tally) = tallies.get_mut(entry as usize) {
+        *tally = tally.and(Tally {
+            cases: 1,
+            differ: u64::from(!is_as_recorded(entry, case)),
+        });
+    }
+    true
+}
+
+// The length of the case that the bytes begin with.
+fn taken(rest: &[u8], tallies: &mut [Tally; 15]) -> Option<usize>
+    ensures { IfSome result (λ n. (0 < n) × (n ≤ length rest.now)) }
 {
-    let n = within(word(rest, 0), rest.len());
-    if word(rest, 0) == n as u64 {
-        if is_case(&rest[0..n]) {
-            count(&rest[0..n], tally);
-            return n;
-        }
+    let n = pattern_at(rest, 0) as usize;
+    let case = rest.get(..n)?;
+    if n != 0 && is_counted(case, tallies) {
+        Some(n)
+    } else {
+        None
     }
-    0
 }
 
 // Where the cases end, or where one does not keep its form.
-fn counted_up_to(file: &[u8], tally: &mut [u64; 30]) -> usize {
+fn counted_up_to(file: &[u8], tallies: &mut [Tally; 15]) -> usize {
     let mut at = 16;
     while at < file.len() {
-        let n = taken(&file[at..], tally);
-        if n == 0 {
-            return at;
+        match taken(&file[at..], tallies) {
+            Some(n) => at += n,
+            None => return at,
         }
-        at += n;
     }
     at
 }
 
 // The file begins with the letters "malikoza" and the number of its cases.
 pub(crate) fn replay(rt: &impl Print, file: &[u8]) -> io::Result<()> {
-    let mut tally = [0u64; 30];
-    if word(file, 0) != 0x617a_6f6b_696c_616d {
+    let mut tallies = [NONE; 15];
+    if !file.starts_with(b"malikoza") {
         return telling::malformed(rt, 0);
     }
-    let at = counted_up_to(file, &mut tally);
+    let at = counted_up_to(file, &mut tallies);
     if at != file.len() {
         return telling::malformed(rt, at);
     }
-    if telling::total(&tally, 0) != word(file, 1) {
+    if telling::total(&tallies).cases != pattern_at(file, 1) {
         return telling::malformed(rt, 8);
     }
-    telling::tell(rt, &tally)
+    telling::tell(rt, &tallies)
 }

@@ -1,38 +1,37 @@
 -- Recovery as a C caller has it: rows from bytes, 01's number for each case of the answer, and what the four lent numbers then hold.
-use Rattle.std.specs.Prelude.{ℕ, ◌≡◌, cond, List}
+use Rattle.std.specs.Prelude.{ℕ, ◌≡◌, cond, Ok, Err, List}
 use Rattle.std.specs.Float.{binary64}
 use Rattle.std.specs.Float.Ieee.{to_bits}
 use Rattle.limits.specs.declared.request.Request.{Request}
-use Rattle.search.specs.declared.answer.Answer.{Answer}
-use Rattle.search.specs.declared.answer.Answer.TheVariants.{Certified, Refused}
+use Rattle.search.specs.Answer.{Answer}
 use Rattle.topp2_ra.specs.Recovery.{recovered}
 use Rattle.byte_lists.specs.Bytes.{in_eights, doubles_of}
 
 -- ---- 10: "a byte list of a length not divisible by eight; before all others"
 unfoldable pub recovered_bytes : Request → List ℕ → Answer
-recovered_bytes q rows = cond (in_eights rows) (recovered q (doubles_of rows)) (Refused 10)
+recovered_bytes q rows = cond (in_eights rows) (recovered q (doubles_of rows)) (Err 10)
 
 -- ---- the number of each case: 0 where it is certified
 abbrev pub number_of : Answer → ℕ
-number_of (Certified x n r t) = 0
-number_of (Refused k) = k
+number_of (Ok c) = 0
+number_of (Err k) = k
 
 -- the values of each case, as patterns: a refusal leaves what there was
 abbrev pub speed_left : Answer → ℕ → ℕ
-speed_left (Certified x n r t) old = to_bits binary64 x
-speed_left (Refused k) old = old
+speed_left (Ok c) old = to_bits binary64 c.speed
+speed_left (Err k) old = old
 
 abbrev pub normalized_left : Answer → ℕ → ℕ
-normalized_left (Certified x n r t) old = to_bits binary64 n
-normalized_left (Refused k) old = old
+normalized_left (Ok c) old = to_bits binary64 c.worst_normalized
+normalized_left (Err k) old = old
 
 abbrev pub raw_left : Answer → ℕ → ℕ
-raw_left (Certified x n r t) old = to_bits binary64 r
-raw_left (Refused k) old = old
+raw_left (Ok c) old = to_bits binary64 c.worst_raw
+raw_left (Err k) old = old
 
 abbrev pub tried_left : Answer → ℕ → ℕ
-tried_left (Certified x n r t) old = t
-tried_left (Refused k) old = old
+tried_left (Ok c) old = c.tried
+tried_left (Err k) old = old
 
 -- the reply to an answer: the number, and each lent number before and after
 pub record Told (a : Answer) (number speed₀ speed normalized₀ normalized raw₀ raw tried₀ tried : ℕ) : Type 0 where

@@ -1,30 +1,32 @@
 // What t to s answers, told to lent numbers.
+ghost use Rattle.refusals.specs.Refusal.{numbered};
 ghost use Rattle.replies.specs.CountsTold.{Counted};
 
-use sampling::samples::Sampled;
+use following::pass::Counts;
+use refusals::refusal::Refusal;
 
 // The number of an answer; its counts go to the lent numbers.
 pub fn tell(
-    a: Sampled,
+    a: Result<Counts, Refusal>,
     before: &mut u64,
     inside: &mut u64,
     past: &mut u64,
     written: &mut u64,
 ) -> u64
-    ensures { Counted a result
+    ensures { Counted (numbered a) result
         before.old before.new
         inside.old inside.new
         past.old past.new
         written.old written.new }
 {
     match a {
-        Sampled::Done(c) => {
+        Ok(c) => {
             *before = c.before as u64;
             *inside = c.inside as u64;
             *past = c.past as u64;
             *written = c.written as u64;
             0
         }
-        Sampled::Refused(k) => k,
+        Err(refusal) => refusal.number(),
     }
 }

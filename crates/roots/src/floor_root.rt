@@ -8,7 +8,7 @@ fn line(d: u64) -> u64
     requires { d < 2 ^ 31 }
     ensures { (2 ^ 13 ≤ result) × (result < 65000) × (d < result * 65000) }
 {
-    match u64::leading_zeros(d) {
+    match d.leading_zeros() {
         35 => 0x25fb + (d * 0x1_aa48 >> 32),
         34 => 0x35b7 + (d * 0x1_2d6d >> 32),
         _ => 0x4bf6 + (d * 0xd524 >> 32),

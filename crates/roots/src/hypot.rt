@@ -1,5 +1,5 @@
 // Document 01's hypot.
-ghost use Rattle.std.specs.Prelude.{◌≡◌, ◌+◌, ◌-◌, ◌*◌, ◌/◌, ◌%◌, ◌^◌, ◌<◌, ◌≤◌, cond, ltb};
+ghost use Rattle.std.specs.Prelude.{◌≡◌, ◌+◌, ◌-◌, ◌*◌, ◌/◌, ◌%◌, ◌^◌, ◌<◌, ◌≤◌};
 ghost use Rattle.std.specs.Float.{binary64};
 ghost use Rattle.std.specs.Float.Ieee.{of_bits};
 ghost use Rattle.rounding.specs.Packing.{significand, exponent};
@@ -9,7 +9,6 @@ ghost use Rattle.roots.specs.Hypot.{hypot_of, Spanned};
 use crate::floor_root;
 use limbs::wide;
 use limbs::wide::Wide;
-use near_roots::guess::Guess;
 use near_roots::length;
 use patterns::pattern;
 use rounding::packing;
@@ -104,13 +103,10 @@ fn ordered(a: u64, b: u64) -> f64
     if a < 0x7ff0_0000_0000_0000 {
         return finite_length(a, b);
     }
-    if a == 0x7ff0_0000_0000_0000 {
-        return f64::from_bits(0x7ff0_0000_0000_0000);
+    if a == 0x7ff0_0000_0000_0000 || b == 0x7ff0_0000_0000_0000 {
+        return f64::INFINITY;
     }
-    if b == 0x7ff0_0000_0000_0000 {
-        return f64::from_bits(0x7ff0_0000_0000_0000);
-    }
-    0.0 / 0.0
+    f64::NAN
 }
 
 // From two patterns without a sign, the larger first. A guess that is right is the answer; else the length is worked out. A long function that is called
@@ -119,7 +115,7 @@ fn tried_length(a: u64, b: u64) -> f64
     requires { (b ≤ a) × (a < 0x8000_0000_0000_0000) }
     ensures { result ≡ hypot_of binary64 (of_bits binary64 a) (of_bits binary64 b) }
 {
-    if let Guess::Right(r) = length::guessed(a, b) {
+    if let Some(r) = length::guessed(a, b) {
         return r;
     }
     if a < 0x7ff0_0000_0000_0000 {
@@ -128,37 +124,13 @@ fn tried_length(a: u64, b: u64) -> f64
     ordered(a, b)
 }
 
-// Two patterns in order.
-#[derive(Clone, Copy)]
-struct Sorted {
-    larger: u64,
-    smaller: u64,
-}
-
-fn in_order(a: u64, b: u64) -> Sorted
-    ensures { (result.larger ≡ cond (ltb a b) b a) × (result.smaller ≡ cond (ltb a b) a b) }
-{
-    if a < b {
-        return Sorted {
-            larger: b,
-            smaller: a,
-        };
-    }
-    Sorted {
-        larger: a,
-        smaller: b,
-    }
-}
-
 // From any two doubles, a NaN too.
 fn any_length(x: f64, y: f64) -> f64
     ensures { result ≡ hypot_of binary64 x y }
 {
-    let s = in_order(
-        pattern::pattern_of(x) % 0x8000_0000_0000_0000,
-        pattern::pattern_of(y) % 0x8000_0000_0000_0000,
-    );
-    ordered(s.larger, s.smaller)
+    let a = pattern::pattern_of(x) % 0x8000_0000_0000_0000;
+    let b = pattern::pattern_of(y) % 0x8000_0000_0000_0000;
+    ordered(a.max(b), a.min(b))
 }
 
 // "An infinite part gives plus infinity; else a NaN part gives NaN; else nearest to the root of x² + y²." Most often there is no NaN, and then no
@@ -166,14 +138,10 @@ fn any_length(x: f64, y: f64) -> f64
 pub fn hypot(x: f64, y: f64) -> f64
     ensures { Spanned binary64 x y result }
 {
-    if x == x {
-        if y == y {
-            let s = in_order(
-                f64::to_bits(x) % 0x8000_0000_0000_0000,
-                f64::to_bits(y) % 0x8000_0000_0000_0000,
-            );
-            return tried_length(s.larger, s.smaller);
-        }
+    if x.is_nan() || y.is_nan() {
+        return any_length(x, y);
     }
-    any_length(x, y)
+    let a = x.to_bits() % 0x8000_0000_0000_0000;
+    let b = y.to_bits() % 0x8000_0000_0000_0000;
+    tried_length(a.max(b), a.min(b))
 }

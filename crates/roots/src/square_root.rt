@@ -5,7 +5,6 @@ ghost use Rattle.std.specs.Float.Ieee.{of_bits};
 ghost use Rattle.roots.specs.Root.{sqrt_of, Rooted};
 
 use crate::floor_root;
-use near_roots::guess::Guess;
 use rounding::packing;
 
 // The root of a finite value above zero, from its pattern, in whole numbers. One digit more where that makes the exponent even: half of it is the
@@ -28,18 +27,18 @@ fn positive_root(b: u64) -> f64
 pub fn sqrt(x: f64) -> f64
     ensures { Rooted binary64 x result }
 {
-    if let Guess::Right(r) = near_roots::square_root::guessed(x) {
+    if let Some(r) = near_roots::square_root::guessed(x) {
         return r;
     }
     if x > 0.0 {
-        let b = f64::to_bits(x);
+        let b = x.to_bits();
         if b < 0x7ff0_0000_0000_0000 {
             return positive_root(b);
         }
         return x;
     }
     if x < 0.0 {
-        return 0.0 / 0.0;
+        return f64::NAN;
     }
     x
 }

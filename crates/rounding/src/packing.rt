@@ -27,7 +27,7 @@ pub fn unpacked(b: u64) -> Parts
     ensures { (result.m ≡ significand b) × (result.k ≡ exponent b) }
 {
     if b < 0x10_0000_0000_0000 {
-        let lift = u64::leading_zeros(b) as u64 - 11;
+        let lift = b.leading_zeros() as u64 - 11;
         return Parts {
             m: b << lift,
             k: 53 - lift,
@@ -45,10 +45,7 @@ fn near(w: u64, sh: u64) -> u64
         return 0;
     }
     if sh == 64 {
-        if w > 0x8000_0000_0000_0000 {
-            return 1;
-        }
-        return 0;
+        return if w > 0x8000_0000_0000_0000 { 1 } else { 0 };
     }
     let q = w >> sh;
     let r = w - (q << sh);
@@ -77,7 +74,7 @@ pub fn rounded(neg: bool, m: u64, k: u64) -> f64
     if m == 0 {
         return signed(neg, 0);
     }
-    let lz = u64::leading_zeros(m) as u64;
+    let lz = m.leading_zeros() as u64;
     let w = m << lz;
     let base = 1315 + lz;
     if base <= k {

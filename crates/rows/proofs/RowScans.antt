@@ -1,15 +1,9 @@
 -- Rows of a list from an index on: what every loop over rows asks.
-use Prim.Native.Nat.{ℕ, suc, ◌+◌, ◌-◌, ◌≤◌, ◌<◌}
-use mathlib.Core.Path.{◌≡◌, refl, ◌∙◌}
-use mathlib.Core.List.{List, [], ◌∷◌}
-use native.Mathlib.Omega.{arith}
+use Rattle.std.proofs.Common.{ℕ, suc, ◌+◌, ◌-◌, ◌≤◌, ◌<◌, ◌≡◌, refl, ◌∙◌, List, [], ◌∷◌, arith, length, get_or, drop, length-drop, drop-cons}
 use native.Mathlib.Numerals.{towards_suc}
-use lib.ListN.{length, get_or, drop, length-drop}
-use lib.Seq.{drop-cons}
 use lib.Ieee.{Float, nan}
 use Rattle.rows.specs.Rows.{Row, row, rows_of, fold}
-use Rattle.rows.specs.Reading.{reading_of}
-use Rattle.rows.specs.declared.reading.Reading.{Reading}
+use Rattle.rows.specs.Reading.{Reading, reading_of}
 
 abbrev pub row_at : List Float → ℕ → Row
 row_at l i = row (get_or l i nan) (get_or l (i + 1) nan) (get_or l (i + 2) nan)

@@ -1,19 +1,17 @@
 -- The tests of a block: with finite tolerances they are document 01's, that the residuals are finite and at most their tolerances.
-use mathlib.Core.Path.{◌≡◌, refl, subst}
-use mathlib.Core.Bool.{Bool, true, false, ◌&&◌}
-use lib.Dec.{T}
-use lib.Ieee.{Float, nan, inf, fin, binary64, le, lt, neg, div, of_bits}
+use Rattle.std.proofs.Common.{◌≡◌, refl, subst, Bool, true, false, ◌&&◌, T}
+use lib.Ieee.{Float, nan, inf, fin, binary64, le, lt, of_bits}
 use lib.Ieee.Fits.{and_i, and_l, and_r}
 use lib.Ieee.Scale.{finite}
 use Rattle.number.proofs.Order.{no_more}
 use Rattle.number.proofs.Monotone.{div_finite}
-use Rattle.number.specs.Doubles.{zero, one, ◌⊘◌}
+use Rattle.number.specs.Doubles.{◌⊘◌}
 use Rattle.rows.specs.Row.{four_finite, all_within}
 use Rattle.rows.specs.Judging.{within, three_within}
 
 -- as the program writes it
-pub minus_infinity : neg (one ⊘ zero) ≡ inf true
-unfolding div neg of_bits
+pub minus_infinity : of_bits binary64 0xfff0_0000_0000_0000 ≡ inf true
+unfolding of_bits
 minus_infinity = refl
 
 pub one_truth : (a b : Bool) → (T a → T b) → (T b → T a) → a ≡ b

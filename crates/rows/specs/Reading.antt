@@ -1,11 +1,9 @@
 -- A row as it is read, before any speed is tried: refused, silent, or the terms of its residuals that depend on no speed.
-use Rattle.std.specs.Prelude.{cond, Float}
+use Rattle.std.specs.Prelude.{ℕ, cond, Option, Some, None, Result, Ok, Err, Float}
 use Rattle.number.specs.Doubles.{◌⊗◌}
 use Rattle.rows.specs.Rows.{Row}
 use Rattle.rows.specs.Row.{norm, empty, inv, raw_tol, unfit, unmeetable}
 use Rattle.rows.specs.declared.block.Block.{Block}
-use Rattle.rows.specs.declared.reading.Reading.{Reading}
-use Rattle.rows.specs.declared.reading.Reading.TheVariants.{Unfit, Unmeetable, Silent, Says}
 
 unfoldable pub block_of : Float → Float → Row → Block
 block_of tol a w = record {
@@ -19,6 +17,10 @@ block_of tol a w = record {
   tol = raw_tol tol w;
 }
 
+-- refused with 5 or 6, or silent, or a block
+abbrev pub Reading : Type 0
+Reading = Result (Option Block) ℕ
+
 -- an empty row that can be met says nothing of a speed
 unfoldable pub reading_of : Float → Float → Row → Reading
-reading_of tol a w = cond (unfit tol w) Unfit (cond (unmeetable w) Unmeetable (cond (empty w) Silent (Says (block_of tol a w))))
+reading_of tol a w = cond (unfit tol w) (Err 5) (cond (unmeetable w) (Err 6) (cond (empty w) (Ok None) (Ok (Some (block_of tol a w)))))

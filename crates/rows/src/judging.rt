@@ -4,52 +4,40 @@ ghost use Rattle.rows.specs.Judging.{within, three_within, judged};
 
 use crate::block::Block;
 
-// The three residuals where the row admits the speed.
+// The three residuals of a row that admits the speed.
 #[derive(Clone, Copy)]
-pub enum Judged {
-    Broken,
-    Fits {
-        normalized: f64,
-        raw_normalized: f64,
-        raw: f64,
-    },
+pub struct Residuals {
+    pub normalized: f64,
+    pub raw_normalized: f64,
+    pub raw: f64,
 }
 
 // At most the tolerance, and finite: as the tolerance is, a residual only has to be above minus infinity.
 fn within(y: f64, tol: f64) -> bool
     ensures { result ≡ within y tol }
 {
-    let infinity = 1.0 / 0.0;
-    if -infinity < y {
-        return y <= tol;
-    }
-    false
+    f64::NEG_INFINITY < y && y <= tol
 }
 
 // Three residuals against what they may be at most: none is left out, whichever fits first.
-fn all_within(tol: f64, raw_tol: f64, normalized: f64, raw_normalized: f64, raw: f64) -> bool
-    ensures { result ≡ three_within tol raw_tol normalized raw_normalized raw }
+fn all_within(tol: f64, raw_tol: f64, r: Residuals) -> bool
+    ensures { result ≡ three_within tol raw_tol r.normalized r.raw_normalized r.raw }
 {
-    if within(normalized, tol) {
-        if within(raw_normalized, tol) {
-            return raw <= raw_tol;
-        }
-    }
-    false
+    within(r.normalized, tol) && within(r.raw_normalized, tol) && r.raw <= raw_tol
 }
 
-pub fn judge(tol: f64, x: f64, b: Block) -> Judged
+pub fn judge(tol: f64, x: f64, b: Block) -> Option<Residuals>
     ensures { result ≡ judged tol x b }
 {
-    let normalized = b.incline * x + b.shift - b.bound;
     let raw = b.curr * x + b.prev - b.rhs;
-    let raw_normalized = raw / b.norm;
-    if all_within(tol, b.tol, normalized, raw_normalized, raw) {
-        return Judged::Fits {
-            normalized,
-            raw_normalized,
-            raw,
-        };
+    let residuals = Residuals {
+        normalized: b.incline * x + b.shift - b.bound,
+        raw_normalized: raw / b.norm,
+        raw,
+    };
+    if all_within(tol, b.tol, residuals) {
+        Some(residuals)
+    } else {
+        None
     }
-    Judged::Broken
 }

@@ -3,20 +3,14 @@ ghost use Rattle.std.specs.Prelude.{◌≡◌, ◌&&◌};
 ghost use Rattle.std.specs.Float.Ieee.Scale.{finite};
 ghost use Rattle.number.specs.Leaves.{absolute, maximum};
 ghost use Rattle.number.specs.Doubles.{one};
+ghost use Rattle.refusals.specs.Refusal.{numbered};
 ghost use Rattle.rows.specs.Rows.{row};
 ghost use Rattle.rows.specs.Reading.{reading_of};
 
 use crate::block::Block;
 use number::size;
+use refusals::refusal::Refusal;
 use roots::hypot;
-
-#[derive(Clone, Copy)]
-pub enum Reading {
-    Unfit,
-    Unmeetable,
-    Silent,
-    Says(Block),
-}
 
 // What is finite leaves a zero when it is taken from itself, all else a NaN, which equals nothing.
 fn both_finite(x: f64, y: f64) -> bool
@@ -33,32 +27,27 @@ fn scale(r: f64) -> f64
     if 1.0 < size { size } else { 1.0 }
 }
 
-// A norm that is finite has finite parts.
-pub fn read(tol: f64, a: f64, c: f64, p: f64, r: f64) -> Reading
-    ensures { result ≡ reading_of tol a (row c p r) }
+// Refused, silent, or a block. A norm that is finite has finite parts.
+pub fn read(tol: f64, a: f64, c: f64, p: f64, r: f64) -> Result<Option<Block>, Refusal>
+    ensures { numbered result ≡ reading_of tol a (row c p r) }
 {
     let norm = hypot::hypot(c, p);
-    if both_finite(r, norm) {
-        if norm == 0.0 {
-            if r < 0.0 {
-                return Reading::Unmeetable;
-            }
-            return Reading::Silent;
-        }
-        let inv = 1.0 / norm;
-        let raw_tol = tol * scale(r);
-        if both_finite(inv, raw_tol) {
-            return Reading::Says(Block {
-                incline: c * inv,
-                shift: (p * inv) * a,
-                bound: r * inv,
-                curr: c,
-                prev: p * a,
-                rhs: r,
-                norm,
-                tol: raw_tol,
-            });
-        }
+    Refusal::RowNumber.unless(both_finite(r, norm))?;
+    if norm == 0.0 {
+        Refusal::RowImpossible.unless(!(r < 0.0))?;
+        return Ok(None);
     }
-    Reading::Unfit
+    let inv = 1.0 / norm;
+    let raw_tol = tol * scale(r);
+    Refusal::RowNumber.unless(both_finite(inv, raw_tol))?;
+    Ok(Some(Block {
+        incline: c * inv,
+        shift: (p * inv) * a,
+        bound: r * inv,
+        curr: c,
+        prev: p * a,
+        rhs: r,
+        norm,
+        tol: raw_tol,
+    }))
 }

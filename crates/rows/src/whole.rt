@@ -7,8 +7,5 @@ use refusals::most;
 pub fn whole_rows(n: usize) -> bool
     ensures { result ≡ eqb (n % 3) 0 && leb n (3 * most_rows) }
 {
-    if n % 3 == 0 {
-        return n <= 3 * most::ROWS;
-    }
-    false
+    n % 3 == 0 && n <= 3 * most::ROWS
 }

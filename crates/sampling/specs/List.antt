@@ -1,5 +1,5 @@
 -- t to s for a sample list
-use Rattle.std.specs.Prelude.{ℕ, ◌*◌, ◌/◌, ◌&&◌, List, leb, ltb, length, Float}
+use Rattle.std.specs.Prelude.{ℕ, ◌*◌, ◌/◌, ◌&&◌, List, leb, ltb, length, Float, Result, Ok, Err}
 use Rattle.std.specs.Float.Ieee.{lt}
 use Rattle.std.specs.Float.Ieee.Scale.{finite}
 use Rattle.loops.specs.Upto.{at}
@@ -11,8 +11,6 @@ use Rattle.following.specs.Places.{station_at, counts_of}
 use Rattle.following.specs.declared.pass.Counts.{Counts}
 use Rattle.byte_lists.specs.Bytes.{in_eights, doubles_of, byte_of}
 use Rattle.sampling.specs.Samples.{timed_no}
-use Rattle.sampling.specs.declared.samples.Sampled.{Sampled}
-use Rattle.sampling.specs.declared.samples.Sampled.TheVariants.{Done, Refused}
 
 -- 25, 28, 26, 27, 29
 unfoldable pub samples_no : List Float → ℕ → ℕ
@@ -41,7 +39,7 @@ list_byte_no s a t x out =
     or list_no (doubles_of s) (doubles_of a) (doubles_of t) (doubles_of x) (length out / 8)
 
 -- one entry for each sample
-abbrev pub ByteListed : List ℕ → List ℕ → List ℕ → List ℕ → List ℕ → Sampled → List ℕ → Type 0
+abbrev pub ByteListed : List ℕ → List ℕ → List ℕ → List ℕ → List ℕ → Result Counts ℕ → List ℕ → Type 0
 ByteListed s a t x old =
-    Outcome (Done (list_counts (doubles_of t) (doubles_of x))) Refused (list_byte_no s a t x old) (byte_of (list_station (doubles_of s) (doubles_of a) (doubles_of t) (doubles_of x)))
+    Outcome (Ok (list_counts (doubles_of t) (doubles_of x))) Err (list_byte_no s a t x old) (byte_of (list_station (doubles_of s) (doubles_of a) (doubles_of t) (doubles_of x)))
     (8 * length (doubles_of x)) old

@@ -1,4 +1,5 @@
-// t to s of the Rust's interpolation.rs for a list of times: what is refused, and the answers; and what an even grid, in crate `gridding`, refuses too. Document 01, "Stations,
+// t to s of the Rust's interpolation.rs for a list of times: what is refused, and the answers; and what an
+// even grid, in crate `gridding`, refuses too. Document 01, "Stations,
 // speeds, times", decides.
 #![tactic(auto)]
 

@@ -1,66 +1,52 @@
 // t to s for a sample list, the Rust's NonUniformTimeGrid.
 ghost use Rattle.std.specs.Prelude.{◌≡◌, ◌&&◌, ◌%◌, eqb};
+ghost use Rattle.refusals.specs.Refusal.{number_in, numbered};
 ghost use Rattle.byte_lists.specs.Bytes.{doubles_of};
-ghost use Rattle.sampling.specs.List.{samples_no, list_no, ByteListed};
+ghost use Rattle.sampling.specs.List.{samples_no, ByteListed};
 
 use crate::samples;
-use crate::samples::Sampled;
 use byte_lists::doubles;
 use following::pass;
-use following::pass::Source;
-use list_tests::tests;
-use refusals::chain::{or, unless};
+use following::pass::{Counts, Timed};
+use following::times::Listed;
+use list_tests::tests::Finite;
 use refusals::most;
+use refusals::refusal::Refusal;
 
 // 25, 28, 26, 27, 29: the list is not walked before its length is known to be in the limits.
-fn samples_refusal(x: &[u8], room: usize) -> u64
-    ensures { result ≡ samples_no (doubles_of x.now) room }
+#[tactic(auto, using(byte_lists::proofs::Fronts::length_doubles), unfolding(crate::specs::List::samples_no))]
+fn check_samples(x: &[u8], room: usize) -> Result<(), Refusal>
+    ensures { number_in result ≡ samples_no (doubles_of x.now) room }
 {
     let n = x.len() / 8;
-    if n == 0 {
-        return 25;
-    }
-    if most::SAMPLES < n {
-        return 28;
-    }
-    or(tests::check_rising(x, 26, 27), unless(n <= room, 29))
-}
-
-// 11 to 15, 17, 18, 20 to 22, then the list's
-fn refusal(s: &[u8], a: &[u8], t: &[u8], x: &[u8], room: usize) -> u64
-    ensures { result ≡ list_no (doubles_of s.now) (doubles_of a.now) (doubles_of t.now) (doubles_of x.now) room }
-{
-    let number = samples::refusal(s, a, t);
-    if number == 0 {
-        samples_refusal(x, room)
-    } else {
-        number
-    }
+    Refusal::NoSamples.unless(0 < n)?;
+    Refusal::TooManySamples.unless(n <= most::SAMPLES)?;
+    let samples = Finite::of(x).ok_or(Refusal::SampleNotFinite)?;
+    Refusal::SamplesNotIncreasing.unless(samples.rises())?;
+    Refusal::OutputTooShort.unless(n <= room)
 }
 
 // 10 comes before all others.
 fn all_in_eights(s: usize, a: usize, t: usize, x: usize, out: usize) -> bool
     ensures { result ≡ (eqb (s % 8) 0 && (eqb (a % 8) 0 && eqb (out % 8) 0)) && (eqb (t % 8) 0 && (eqb (x % 8) 0 && eqb (out % 8) 0)) }
 {
-    if doubles::in_eights(s, a, out) {
-        return doubles::in_eights(t, x, out);
-    }
-    false
+    doubles::in_eights(s, a, out) && doubles::in_eights(t, x, out)
 }
 
-// The station at each sample, or NaN.
-pub fn t_to_s_topp2_list(s: &[u8], a: &[u8], t: &[u8], x: &[u8], out: &mut [u8]) -> Sampled
-    ensures { ByteListed s.now a.now t.now x.now out.old result out.new }
+// The station at each sample, or NaN: 10, 11 to 15, 17, 18, 20 to 22, then the list's.
+#[tactic(auto, unfolding(crate::specs::List::list_no))]
+pub fn t_to_s_topp2_list(
+    s: &[u8],
+    a: &[u8],
+    t: &[u8],
+    x: &[u8],
+    out: &mut [u8],
+) -> Result<Counts, Refusal>
+    ensures { ByteListed s.now a.now t.now x.now out.old (numbered result) out.new }
 {
-    if all_in_eights(s.len(), a.len(), t.len(), x.len(), out.len()) {
-        let number = refusal(s, a, t, x, out.len() / 8);
-        if number == 0 {
-            let n = x.len() / 8;
-            let r = pass::t_to_s_topp2_core(s, a, t, Source::Listed, x, n, out);
-            let counts = r.counts;
-            return Sampled::Done(counts);
-        }
-        return Sampled::Refused(number);
-    }
-    Sampled::Refused(10)
+    Refusal::NotEights.unless(all_in_eights(s.len(), a.len(), t.len(), x.len(), out.len()))?;
+    let p = Timed { s, a, t };
+    samples::check(p)?;
+    check_samples(x, out.len() / 8)?;
+    Ok(pass::t_to_s_topp2_core(p, Listed(x), x.len() / 8, out).counts)
 }

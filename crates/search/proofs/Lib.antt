@@ -1,2 +1,2 @@
-pub mod Answering
 pub mod Turns
+pub mod Answering

@@ -1,21 +1,17 @@
 -- One more halving, and one more neighbour: what the loops of the search keep.
-use Prim.Native.Nat.{ℕ, zero, suc, ◌+◌, ◌-◌, ◌≤◌, ◌<◌}
-use mathlib.Core.Path.{◌≡◌, refl, sym, ap, ◌∙◌}
-use mathlib.Core.Bool.{Bool, true, false}
-use native.Mathlib.Omega.{arith}
+use Rattle.std.proofs.Common.{ℕ, zero, suc, ◌+◌, ◌-◌, ◌≤◌, ◌<◌, arith, ◌≡◌, refl, sym, ap, ◌∙◌, Bool, true, false, Some, None, Ok, Err}
 use lib.Ieee.{Float, binary64, lt}
 use Rattle.number.specs.Leaves.{next_down}
 use Rattle.number.proofs.Order.{fails}
 use Rattle.limits.specs.declared.projection.Span.{Span}
-use Rattle.certificates.specs.declared.certificate.Certificate.{Certificate}
-use Rattle.certificates.specs.declared.certificate.Certificate.TheVariants.{Passed, Failed}
+use Rattle.certificates.specs.Certificate.{Certificate}
+use Rattle.certificates.specs.declared.certificate.Figures.{Figures}
 use Rattle.certificates.proofs.Verdicts.{verdict}
-use Rattle.search.specs.Search.{Asked, middle, stops, replaced, halved, halvings, certified_by, after_middle, with_middle, try_middle, neighbours}
+use Rattle.search.specs.Answer.{Answer, certified}
+use Rattle.search.specs.Search.{Asked, Ends, middle, stops, replaced, halved, halvings, certified_by, after_middle, with_middle, try_middle, neighbours}
 use Rattle.search.specs.OnTable.{meet, moved, halved_sides, normalized_in, raw_in, ends_on, halved_all}
-use Rattle.search.specs.declared.halving.Ends.{Ends}
 use Rattle.search.specs.declared.halving.Sides.{Sides}
 use Rattle.search.specs.declared.neighbours.Near.TheVariants.{Found, ToMiddle}
-use Rattle.search.specs.declared.answer.Answer.TheVariants.{Certified, Refused}
 
 module _ (cert : Asked) where
   pub halvings_on : (n : ℕ) (e : Ends) → 0 < n → stops e ≡ false → halvings cert n (stops e) e ≡ halvings cert (n - 1) (stops (halved cert e)) (halved cert e)
@@ -35,8 +31,8 @@ module _ (cert : Asked) where
 
   replaced_tried : (e : Ends) (m : Float) (c : Certificate) → (replaced e m c).tried ≡ e.tried + 1
   unfolding replaced
-  replaced_tried e m (Passed n r) = refl
-  replaced_tried e m Failed = refl
+  replaced_tried e m (Some f) = refl
+  replaced_tried e m None = refl
 
   pub halved_tried : (e : Ends) → (halved cert e).tried ≡ e.tried + 1
   unfolding halved
@@ -56,8 +52,8 @@ module _ (cert : Asked) where
         rw (← same m) (go m (cert m) refl)
       where
         go : (m : Float) (c : Certificate) → cert m ≡ c → replaced (ends_on cert s) m c ≡ ends_on cert (moved s m (verdict c))
-        go m (Passed n r) e = rw e
-        go m Failed e = refl
+        go m (Some f) e = rw e
+        go m None e = refl
 
     pub sides_pass : (s : Sides) → passes s.passing ≡ true → passes (halved_sides passes s).passing ≡ true
     unfolding halved_sides moved
@@ -76,10 +72,13 @@ module _ (cert : Asked) where
       go false = refl
 
   -- the last passing end, certified
-  pub end_certified : (s start : Sides) (n r : Float) → ends_on cert s ≡ halved_all cert start → cert s.passing ≡ Passed n r
-      → Certified s.passing n r s.tried ≡ after_middle cert (ends_on cert start)
+  pub end_certified : (s start : Sides) (f : Figures) → ends_on cert s ≡ halved_all cert start → cert s.passing ≡ Some f
+      → Ok (certified s.passing f.worst_normalized f.worst_raw s.tried) ≡ after_middle cert (ends_on cert start)
   unfolding after_middle
-  end_certified s start n r h e = ap (λ (c : Certificate). Certified s.passing (normalized_in c) (raw_in c) s.tried) (sym e) ∙ ap certified_by h
+  end_certified s start f h e = ap answer (sym e) ∙ ap certified_by h
+    where
+      answer : Certificate → Answer
+      answer c = Ok (certified s.passing (normalized_in c) (raw_in c) s.tried)
 
   -- ---- the middle
   module _ (s : Span) (t : ℕ) where
@@ -93,16 +92,16 @@ module _ (cert : Asked) where
         go : (c : Certificate) → verdict c ≡ true
             → after_middle cert (record { passing = start.passing; worst_normalized = normalized_in c; worst_raw = raw_in c; rejected = s.high; tried = t + 1 })
             ≡ with_middle cert s t c
-        go (Passed n r) h = refl
-        go Failed h = absurd (fails (sym h) tt)
+        go (Some f) h = refl
+        go None h = absurd (fails (sym h) tt)
 
-    pub middle_failed : verdict (cert start.passing) ≡ false → Refused 9 ≡ try_middle cert s t
+    pub middle_failed : verdict (cert start.passing) ≡ false → Err 9 ≡ try_middle cert s t
     unfolding try_middle with_middle
     middle_failed h = go (cert start.passing) h
       where
-        go : (c : Certificate) → verdict c ≡ false → Refused 9 ≡ with_middle cert s t c
-        go (Passed n r) h = absurd (fails h tt)
-        go Failed h = refl
+        go : (c : Certificate) → verdict c ≡ false → Err 9 ≡ with_middle cert s t c
+        go (Some f) h = absurd (fails h tt)
+        go None h = refl
 
   -- ---- neighbours: 6 less those that were tried are left
   module _ (low : Float) where
@@ -116,13 +115,13 @@ module _ (cert : Asked) where
     near_end zero b c x t h = refl
     near_end (suc n) b c x t h = absurd (omega arith)
 
-    pub near_found : (n : ℕ) (b : Bool) (c : Certificate) (x : Float) (t : ℕ) (u v : Float) → 0 < n → b ≡ false → c ≡ Passed u v
-        → neighbours cert low n b c x t ≡ Found x u v (t + 1)
+    pub near_found : (n : ℕ) (b : Bool) (c : Certificate) (x : Float) (t : ℕ) (f : Figures) → 0 < n → b ≡ false → c ≡ Some f
+        → neighbours cert low n b c x t ≡ Found (certified x f.worst_normalized f.worst_raw (t + 1))
     unfolding neighbours
-    near_found zero b c x t u v h e f = absurd (omega arith)
-    near_found (suc n) b c x t u v h e f = rw (e, f)
+    near_found zero b c x t u h e f = absurd (omega arith)
+    near_found (suc n) b c x t u h e f = rw (e, f)
 
-    pub near_on : (n : ℕ) (b : Bool) (c : Certificate) (x : Float) (t : ℕ) → 0 < n → b ≡ false → c ≡ Failed
+    pub near_on : (n : ℕ) (b : Bool) (c : Certificate) (x : Float) (t : ℕ) → 0 < n → b ≡ false → c ≡ None
         → neighbours cert low n b c x t ≡ neighbours cert low (n - 1) (lt (next_down binary64 x) low) (cert (next_down binary64 x)) (next_down binary64 x) (t + 1)
     unfolding neighbours
     near_on zero b c x t h e f = absurd (omega arith)

@@ -1,27 +1,24 @@
 -- What inner functions answer after a cap that failed, by the blocks of the table.
-use Rattle.std.specs.Prelude.{ℕ, ◌+◌, Bool, ◌||◌, cond, List, Float}
+use Rattle.std.specs.Prelude.{ℕ, ◌+◌, Bool, ◌||◌, cond, Some, None, Ok, Err, List, Float}
 use Rattle.std.specs.Float.Ieee.{eq}
 use Rattle.number.specs.Doubles.{zero}
 use Rattle.rows.specs.declared.block.Block.{Block}
 use Rattle.limits.specs.Bounds.{span_of}
 use Rattle.limits.specs.declared.request.Request.{Request}
 use Rattle.limits.specs.declared.projection.Span.{Span}
-use Rattle.certificates.specs.declared.certificate.Certificate.{Certificate}
-use Rattle.certificates.specs.declared.certificate.Certificate.TheVariants.{Passed, Failed}
-use Rattle.tables.specs.Findings.{Finding, some_unfit, some_unmeetable, all_blocks, found}
+use Rattle.certificates.specs.Certificate.{Certificate}
+use Rattle.tables.specs.Findings.{Finding, found}
 use Rattle.tables.specs.ByBlocks.{certificate_on, gathered}
 use Rattle.tables.specs.declared.projection.Gathered.{Gathered}
-use Rattle.search.specs.Search.{Asked, middle, stops, halvings, searched}
-use Rattle.search.specs.declared.halving.Ends.{Ends}
+use Rattle.search.specs.Answer.{Answer}
+use Rattle.search.specs.Search.{Asked, Ends, middle, stops, halvings, searched}
 use Rattle.search.specs.declared.halving.Sides.{Sides}
 use Rattle.search.specs.declared.neighbours.Near.{Near}
 use Rattle.search.specs.declared.neighbours.Near.TheVariants.{Found, ToMiddle}
-use Rattle.search.specs.declared.answer.Answer.{Answer}
-use Rattle.search.specs.declared.answer.Answer.TheVariants.{Refused}
 
 -- the neighbours: how many were tried before the middle
 abbrev pub tried_before : Near → ℕ
-tried_before (Found x n r t) = 0
+tried_before (Found c) = 0
 tried_before (ToMiddle t) = t
 
 -- ---- the halvings without figures
@@ -41,12 +38,12 @@ halved_sides passes s = let m = middle s.passing s.rejected in moved s m (passes
 
 -- the figures of a certificate
 abbrev pub normalized_in : Certificate → Float
-normalized_in (Passed n r) = n
-normalized_in Failed = zero
+normalized_in (Some f) = f.worst_normalized
+normalized_in None = zero
 
 abbrev pub raw_in : Certificate → Float
-raw_in (Passed n r) = r
-raw_in Failed = zero
+raw_in (Some f) = f.worst_raw
+raw_in None = zero
 
 -- the ends with the figures of the passing one
 abbrev pub ends_on : Asked → Sides → Ends
@@ -64,16 +61,15 @@ halved_all cert s = halvings cert 64 (stops (ends_on cert s)) (ends_on cert s)
 -- ---- the table
 -- refusals 7 and 8, of rows, come before the search
 unfoldable pub after_gathered : Float → Span → List Block → Gathered → Answer
-after_gathered tol bounds bs g = cond g.unreachable (Refused 7) (cond g.flat (Refused 8) (searched (certificate_on tol bounds bs) g.span))
+after_gathered tol bounds bs g = cond g.unreachable (Err 7) (cond g.flat (Err 8) (searched (certificate_on tol bounds bs) g.span))
 
 abbrev pub with_table : Float → Span → List Block → Answer
 with_table tol bounds bs = after_gathered tol bounds bs (gathered tol bounds bs)
 
 abbrev pub from_finding : Float → Span → Finding → Answer
-from_finding tol bounds some_unfit = Refused 5
-from_finding tol bounds some_unmeetable = Refused 6
-from_finding tol bounds (all_blocks bs) = with_table tol bounds bs
+from_finding tol bounds (Ok bs) = with_table tol bounds bs
+from_finding tol bounds (Err r) = Err r
 
--- by a table of n doubles
+-- by a table of n blocks
 abbrev pub by_table : Request → List Float → ℕ → Answer
 by_table q l n = from_finding q.tolerances.feas (span_of q) (found q.tolerances.feas q.a_prev l n)

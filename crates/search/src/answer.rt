@@ -1,13 +1,27 @@
 // What recovery answers.
+ghost use Rattle.std.specs.Prelude.{◌≡◌};
+ghost use Rattle.search.specs.Answer.{certified};
 
-// Certified, with the speed, both worst figures and the number of candidates tried; or a refusal number and no more.
+use certificates::certificate::Figures;
+
+// The speed, both worst figures and the number of candidates tried.
 #[derive(Clone, Copy)]
-pub enum Answer {
-    Certified {
-        speed: f64,
-        worst_normalized: f64,
-        worst_raw: f64,
-        tried: u64,
-    },
-    Refused(u64),
+pub struct Certified {
+    pub speed: f64,
+    pub worst_normalized: f64,
+    pub worst_raw: f64,
+    pub tried: u64,
+}
+
+impl Certified {
+    pub(crate) fn with(speed: f64, f: Figures, tried: u64) -> Certified
+        ensures { result ≡ certified speed f.worst_normalized f.worst_raw tried }
+    {
+        Certified {
+            speed,
+            worst_normalized: f.worst_normalized,
+            worst_raw: f.worst_raw,
+            tried,
+        }
+    }
 }

@@ -1,26 +1,16 @@
 // The middle, and what follows it: halvings between the passing middle and the rejected upper end.
 ghost use Rattle.std.specs.Prelude.{◌≡◌, true, ◌<◌, ◌≤◌};
-ghost use Rattle.tables.specs.Table.{blocks_of};
-ghost use Rattle.tables.specs.ByBlocks.{certificate_on, passes_on};
+ghost use Rattle.refusals.specs.Refusal.{numbered};
+ghost use Rattle.tables.specs.ByBlocks.{certificate_by, passes_by};
 ghost use Rattle.search.specs.Search.{middle, after_middle, try_middle};
 ghost use Rattle.search.specs.OnTable.{meet, moved, halved_sides, ends_on, halved_all};
 
-use crate::answer::Answer;
-use certificates::certificate::Certificate;
+use crate::answer::Certified;
 use limits::projection::Span;
-use tables::{certificate, verdict};
+use refusals::refusal::Refusal;
+use tables::trial::Trial;
 
-// The ends of the halving: one that passes, with its figures, and one that is rejected.
-#[derive(Clone, Copy)]
-pub struct Ends {
-    pub passing: f64,
-    pub worst_normalized: f64,
-    pub worst_raw: f64,
-    pub rejected: f64,
-    pub tried: u64,
-}
-
-// The same without figures: those of the last passing end alone are asked for.
+// The ends of the halving, one that passes and one that is rejected, without figures: those of the last passing end alone are asked for.
 #[derive(Clone, Copy)]
 pub(crate) struct Sides {
     pub passing: f64,
@@ -39,88 +29,74 @@ fn at_an_end(s: Sides) -> bool
     ensures { result ≡ meet s }
 {
     let m = middle(s.passing, s.rejected);
-    if m == s.passing {
-        return true;
-    }
-    m == s.rejected
+    m == s.passing || m == s.rejected
 }
 
 fn replace(s: Sides, m: f64, passes: bool) -> Sides
     requires { s.tried < 1000 }
     ensures { result ≡ moved s m passes }
 {
+    let tried = s.tried + 1;
     if passes {
-        return Sides {
+        Sides {
             passing: m,
             rejected: s.rejected,
-            tried: s.tried + 1,
-        };
-    }
-    Sides {
-        passing: s.passing,
-        rejected: m,
-        tried: s.tried + 1,
+            tried,
+        }
+    } else {
+        Sides {
+            passing: s.passing,
+            rejected: m,
+            tried,
+        }
     }
 }
 
-fn halve(tol: f64, bounds: Span, table: &[f64], s: Sides) -> Sides
+fn halve(t: Trial, s: Sides) -> Sides
     requires { s.tried < 1000 }
-    ensures { result ≡ halved_sides (passes_on tol bounds (blocks_of table.now)) s }
+    ensures { result ≡ halved_sides (passes_by t.entry) s }
 {
     let m = middle(s.passing, s.rejected);
-    replace(s, m, verdict::passes(tol, bounds, table, m))
+    replace(s, m, t.passes(m))
 }
 
-fn halve_all(tol: f64, bounds: Span, table: &[f64], start: Sides) -> Sides
-    requires { (start.tried < 900) × (passes_on tol bounds (blocks_of table.now) start.passing ≡ true) }
-    ensures { (ends_on (certificate_on tol bounds (blocks_of table.now)) result ≡ halved_all (certificate_on tol bounds (blocks_of table.now)) start)
-        × (passes_on tol bounds (blocks_of table.now) result.passing ≡ true) }
+fn halve_all(t: Trial, start: Sides) -> Sides
+    requires { (start.tried < 900) × (passes_by t start.passing ≡ true) }
+    ensures { (ends_on (certificate_by t.entry) result ≡ halved_all (certificate_by t.entry) start) × (passes_by t.entry result.passing ≡ true) }
 {
     let mut s = start;
-    let mut left = 64usize;
-    while 0 < left {
+    for _ in 0..64u64 {
         if at_an_end(s) {
             return s;
         }
-        s = halve(tol, bounds, table, s);
-        left -= 1;
+        s = halve(t, s);
     }
     s
 }
 
 // What follows a middle that passes. The passing end is the speed.
-fn after_middle(tol: f64, bounds: Span, table: &[f64], start: Sides) -> Answer
-    requires { (start.tried < 900) × (passes_on tol bounds (blocks_of table.now) start.passing ≡ true) }
-    ensures { result ≡ after_middle (certificate_on tol bounds (blocks_of table.now)) (ends_on (certificate_on tol bounds (blocks_of table.now)) start) }
+fn after_middle(t: Trial, start: Sides) -> Result<Certified, Refusal>
+    requires { (start.tried < 900) × (passes_by t start.passing ≡ true) }
+    ensures { numbered result ≡ after_middle (certificate_by t.entry) (ends_on (certificate_by t.entry) start) }
 {
-    let s = halve_all(tol, bounds, table, start);
-    match certificate::certify(tol, bounds, table, s.passing) {
-        Certificate::Passed {
-            worst_normalized,
-            worst_raw,
-        } => Answer::Certified {
-            speed: s.passing,
-            worst_normalized,
-            worst_raw,
-            tried: s.tried,
-        },
+    let s = halve_all(t, start);
+    match t.certify(s.passing) {
+        Some(f) => Ok(Certified::with(s.passing, f, s.tried)),
         // Never: the passing end passes.
-        Certificate::Failed => Answer::Refused(9),
+        None => Err(Refusal::MiddleFails),
     }
 }
 
-pub(crate) fn try_middle(tol: f64, bounds: Span, table: &[f64], s: Span, tried: u64) -> Answer
+pub(crate) fn try_middle(t: Trial, s: Span, tried: u64) -> Result<Certified, Refusal>
     requires { tried ≤ 6 }
-    ensures { result ≡ try_middle (certificate_on tol bounds (blocks_of table.now)) s tried }
+    ensures { numbered result ≡ try_middle (certificate_by t.entry) s tried }
 {
     let m = middle(s.low, s.high);
-    if verdict::passes(tol, bounds, table, m) {
-        let start = Sides {
-            passing: m,
-            rejected: s.high,
-            tried: tried + 1,
-        };
-        return after_middle(tol, bounds, table, start);
-    }
-    Answer::Refused(9)
+    Refusal::MiddleFails.unless(t.passes(m))?;
+    let start = Sides {
+        passing: m,
+        rejected: s.high,
+        tried: tried + 1,
+    };
+    after_middle(t, start)
 }

@@ -1,50 +1,34 @@
 // The projected upper end and up to four next-down doubles. What follows them is told, and not called: the middle.
 ghost use Rattle.std.specs.Prelude.{◌≡◌, ◌≤◌};
 ghost use Rattle.search.specs.Search.{try_neighbours};
-ghost use Rattle.tables.specs.Table.{blocks_of};
-ghost use Rattle.tables.specs.ByBlocks.{certificate_on};
+ghost use Rattle.tables.specs.ByBlocks.{certificate_by};
 ghost use Rattle.search.specs.OnTable.{tried_before};
 
-use certificates::certificate::Certificate;
+use crate::answer::Certified;
 use limits::projection::Span;
 use number::step;
-use tables::certificate;
+use tables::trial::Trial;
 
 // A candidate that passes, or the number of those tried before the middle.
 #[derive(Clone, Copy)]
 pub enum Near {
-    Found {
-        speed: f64,
-        worst_normalized: f64,
-        worst_raw: f64,
-        tried: u64,
-    },
+    Found(Certified),
     ToMiddle(u64),
 }
 
-pub(crate) fn try_neighbours(tol: f64, bounds: Span, table: &[f64], s: Span) -> Near
-    ensures { (result ≡ try_neighbours (certificate_on tol bounds (blocks_of table.now)) s) × (tried_before result ≤ 6) }
+// The cap was tried before.
+pub(crate) fn try_neighbours(t: Trial, s: Span) -> Near
+    ensures { (result ≡ try_neighbours (certificate_by t.entry) s) × (tried_before result ≤ 6) }
 {
     let mut x = s.high;
-    let mut tried = 1u64;
-    while tried < 6 {
+    for tried in 1..6 {
         if x < s.low {
             return Near::ToMiddle(tried);
         }
-        tried += 1;
-        if let Certificate::Passed {
-            worst_normalized,
-            worst_raw,
-        } = certificate::certify(tol, bounds, table, x)
-        {
-            return Near::Found {
-                speed: x,
-                worst_normalized,
-                worst_raw,
-                tried,
-            };
+        if let Some(f) = t.certify(x) {
+            return Near::Found(Certified::with(x, f, tried + 1));
         }
         x = step::next_down(x);
     }
-    Near::ToMiddle(tried)
+    Near::ToMiddle(6)
 }

@@ -1,160 +1,125 @@
 // The cap, and the search after a cap that failed.
-ghost use Rattle.std.specs.Prelude.{◌≡◌, ◌*◌, ◌≤◌, length};
+ghost use Rattle.std.specs.Prelude.{◌≡◌, ◌≤◌};
+ghost use Rattle.refusals.specs.Most.{most_rows};
+ghost use Rattle.refusals.specs.Refusal.{numbered};
 ghost use Rattle.byte_lists.specs.Bytes.{doubles_of};
-ghost use Rattle.tables.specs.Table.{blocks_of};
-ghost use Rattle.tables.specs.Findings.{count_of, found_in};
-ghost use Rattle.tables.specs.ByBlocks.{certificate_on};
+ghost use Rattle.tables.specs.ByBlocks.{certificate_by};
 ghost use Rattle.search.specs.Search.{in_order, after_neighbours, searched};
 ghost use Rattle.search.specs.Cap.{with_rows};
-ghost use Rattle.search.specs.OnTable.{tried_before, after_gathered, with_table, from_finding, by_table};
+ghost use Rattle.search.specs.OnTable.{tried_before, after_gathered, with_table, by_table};
 
-use crate::answer::Answer;
+use crate::answer::Certified;
 use crate::neighbours::Near;
 use crate::{halving, neighbours};
 use certificates::certificate;
-use certificates::certificate::Certificate;
 use limits::bounds;
 use limits::projection::Span;
 use limits::request::Request;
 use number::size;
-use tables::filling::Filled;
+use refusals::refusal::Refusal;
+use rows::block::Block;
+use tables::filling;
 use tables::projection::Gathered;
-use tables::{filling, projection};
+use tables::trial::Trial;
 
 fn in_order(s: Span) -> bool
     ensures { result ≡ in_order s }
 {
-    if size::finite(s.low) {
-        if size::finite(s.high) {
-            return !(s.high < s.low);
-        }
-    }
-    false
+    size::finite(s.low) && size::finite(s.high) && !(s.high < s.low)
 }
 
-fn after_neighbours(tol: f64, bounds: Span, table: &[f64], s: Span, near: Near) -> Answer
+fn after_neighbours(t: Trial, s: Span, near: Near) -> Result<Certified, Refusal>
     requires { tried_before near ≤ 6 }
-    ensures { result ≡ after_neighbours (certificate_on tol bounds (blocks_of table.now)) s near }
+    ensures { numbered result ≡ after_neighbours (certificate_by t.entry) s near }
 {
     match near {
-        Near::Found {
-            speed,
-            worst_normalized,
-            worst_raw,
-            tried,
-        } => Answer::Certified {
-            speed,
-            worst_normalized,
-            worst_raw,
-            tried,
-        },
+        Near::Found(c) => Ok(c),
         // What is called from one place is built into its caller, and the halvings then run short of registers: hence two calls.
         Near::ToMiddle(tried) => {
             if tried == 6 {
-                return halving::try_middle(tol, bounds, table, s, 6);
+                return halving::try_middle(t, s, 6);
             }
-            halving::try_middle(tol, bounds, table, s, tried)
+            halving::try_middle(t, s, tried)
         }
     }
 }
 
-fn search(tol: f64, bounds: Span, table: &[f64], s: Span) -> Answer
-    ensures { result ≡ searched (certificate_on tol bounds (blocks_of table.now)) s }
+fn search(t: Trial, s: Span) -> Result<Certified, Refusal>
+    ensures { numbered result ≡ searched (certificate_by t.entry) s }
 {
-    if in_order(s) {
-        let near = neighbours::try_neighbours(tol, bounds, table, s);
-        return after_neighbours(tol, bounds, table, s, near);
-    }
-    Answer::Refused(8)
+    Refusal::ProjectionEmpty.unless(in_order(s))?;
+    after_neighbours(t, s, neighbours::try_neighbours(t, s))
 }
 
 // Refusals 7 and 8 of rows come before the search.
-fn after_gathered(tol: f64, bounds: Span, table: &[f64], g: Gathered) -> Answer
-    ensures { result ≡ after_gathered tol bounds (blocks_of table.now) g }
+fn after_gathered(t: Trial, g: Gathered) -> Result<Certified, Refusal>
+    ensures { numbered result ≡ after_gathered t.entry.tol t.entry.bounds t.entry.table.now g }
 {
-    if g.unreachable {
-        return Answer::Refused(7);
-    }
-    if g.flat {
-        return Answer::Refused(8);
-    }
-    search(tol, bounds, table, g.span)
+    Refusal::ProjectionNotFinite.unless(!g.unreachable)?;
+    Refusal::ProjectionEmpty.unless(!g.flat)?;
+    search(t, g.span)
 }
 
-fn with_table(tol: f64, bounds: Span, table: &[f64]) -> Answer
-    ensures { result ≡ with_table tol bounds (blocks_of table.now) }
+fn with_table(t: Trial) -> Result<Certified, Refusal>
+    ensures { numbered result ≡ with_table t.entry.tol t.entry.bounds t.entry.table.now }
 {
-    after_gathered(tol, bounds, table, projection::gather(tol, bounds, table))
+    after_gathered(t, t.gather())
 }
 
-// Refusals 5 and 6, then what the table answers.
-fn on_table(tol: f64, bounds: Span, table: &[f64], v: Filled) -> Answer
-    requires { 8 * count_of v ≤ length table.now }
-    ensures { result ≡ from_finding tol bounds (found_in table.now v) }
-{
-    match v {
-        Filled::SomeUnfit => Answer::Refused(5),
-        Filled::SomeUnmeetable => Answer::Refused(6),
-        Filled::Ready(n) => {
-            let end = 8 * n;
-            with_table(tol, bounds, &table[..end])
-        }
-    }
-}
+// A place of the table that no row has filled.
+const CLEAR: Block = Block {
+    incline: 0.0,
+    shift: 0.0,
+    bound: 0.0,
+    curr: 0.0,
+    prev: 0.0,
+    rhs: 0.0,
+    norm: 0.0,
+    tol: 0.0,
+};
 
-// Up to 32 rows.
-fn few_rows(q: Request, rows: &[u8]) -> Answer
-    ensures { result ≡ by_table q (doubles_of rows.now) 256 }
+// By a table of N blocks: refusals 5 and 6, then what the table answers.
+fn by_blocks<const N: usize>(q: Request, rows: &[u8]) -> Result<Certified, Refusal>
+    requires { N ≤ most_rows }
+    ensures { numbered result ≡ by_table q (doubles_of rows.now) N }
 {
     let tol = q.tolerances.feas;
-    let mut table = [0.0; 256];
-    let v = filling::fill(tol, q.a_prev, rows, &mut table);
-    on_table(tol, bounds::span(q), &table, v)
-}
-
-// Up to 256.
-fn many_rows(q: Request, rows: &[u8]) -> Answer
-    ensures { result ≡ by_table q (doubles_of rows.now) 2048 }
-{
-    let tol = q.tolerances.feas;
-    let mut table = [0.0; 2048];
-    let v = filling::fill(tol, q.a_prev, rows, &mut table);
-    on_table(tol, bounds::span(q), &table, v)
+    let mut table = [CLEAR; N];
+    let n = filling::fill(tol, q.a_prev, rows, &mut table)?;
+    with_table(Trial {
+        tol,
+        bounds: bounds::span(q),
+        table: &table[..n],
+    })
 }
 
 // A table of the size that is needed, so that a short list does not pay for a long one.
-fn by_table(q: Request, rows: &[u8]) -> Answer
-    ensures { result ≡ by_table q (doubles_of rows.now) 2048 }
+fn by_table(q: Request, rows: &[u8]) -> Result<Certified, Refusal>
+    ensures { numbered result ≡ by_table q (doubles_of rows.now) 256 }
 {
     if rows.len() <= 768 {
-        return few_rows(q, rows);
+        by_blocks::<32>(q, rows)
+    } else {
+        by_blocks::<256>(q, rows)
     }
-    many_rows(q, rows)
 }
 
 // The cap, and the table where it fails.
-fn by_cap(q: Request, rows: &[u8]) -> Answer
-    ensures { result ≡ with_rows q (doubles_of rows.now) }
+fn by_cap(q: Request, rows: &[u8]) -> Result<Certified, Refusal>
+    ensures { numbered result ≡ with_rows q (doubles_of rows.now) }
 {
     let cap = bounds::upper(q);
     match certificate::certify(q, rows, cap) {
-        Certificate::Passed {
-            worst_normalized,
-            worst_raw,
-        } => Answer::Certified {
-            speed: cap,
-            worst_normalized,
-            worst_raw,
-            tried: 1,
-        },
-        Certificate::Failed => by_table(q, rows),
+        Some(f) => Ok(Certified::with(cap, f, 1)),
+        None => by_table(q, rows),
     }
 }
 
-// The cap first: where it passes, no row is refused, and no table is made. A cap outside the bounds fails without its rows. What is called from one place is built
+// The cap first: where it passes, no row is refused, and no table is made. A cap outside the bounds fails
+// without its rows. What is called from one place is built
 // into its caller, whose frame would hold the table for a passing cap too: hence the table is asked in two.
-pub fn recover(q: Request, rows: &[u8]) -> Answer
-    ensures { result ≡ with_rows q (doubles_of rows.now) }
+pub fn recover(q: Request, rows: &[u8]) -> Result<Certified, Refusal>
+    ensures { numbered result ≡ with_rows q (doubles_of rows.now) }
 {
     let bounds = bounds::span(q);
     if certificate::is_inside(bounds, bounds.high) {

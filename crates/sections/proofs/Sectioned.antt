@@ -1,27 +1,22 @@
 -- What is known of a section: it lies in the file past its place and its payload has no fault, or it is refused by one of the file's numbers.
-use Prim.Native.Nat.{ℕ, zero, suc, ◌+◌, ◌*◌, ◌-◌, ◌≤◌, ◌<◌}
-use mathlib.Core.Path.{◌≡◌, refl, sym, subst}
-use mathlib.Core.Bool.{Bool, true, false}
-use mathlib.Core.List.{List}
-use native.Mathlib.Omega.{arith}
+use Rattle.std.proofs.Common.{ℕ, zero, suc, ◌+◌, ◌*◌, ◌-◌, ◌≤◌, ◌<◌, ◌≡◌, refl, sym, subst, Bool, true, false, List, length, get_or}
+use Rattle.std.proofs.Common.{Result, Ok, Err, leb, eqb, arith}
 use native.Mathlib.Nat.{suc-ne-zero}
 use borrow.Author.Tests.{leb-true}
-use lib.Dec.{leb, eqb}
-use lib.ListN.{length, get_or}
 use Rattle.refusals.specs.Refusals.{unless, ◌or◌}
 use Rattle.refusals.specs.Outcome.{answered}
 use Rattle.refusals.proofs.Chains.{or_none, unless_none}
 use Rattle.groups.specs.Groups.{read_at}
 use Rattle.groups.specs.declared.Number.{Number}
-use Rattle.groups.specs.declared.Number.TheVariants.{Read, Cut, Faulty}
+use Rattle.groups.specs.declared.Fault.{Fault}
+use Rattle.groups.specs.declared.Fault.TheVariants.{Cut, Faulty}
 use Rattle.groups.proofs.Numbers.{Known, known}
 use Rattle.payloads.specs.Payload.{form_of, form_number, count_number, grid_number, payload_number}
 use Rattle.payloads.proofs.Forms.{each_form}
 use Rattle.payloads.specs.declared.form.Form.{Form}
-use Rattle.payloads.specs.declared.form.Form.TheVariants.{Listed, Grid, Refused as NoForm}
-use Rattle.sections.specs.Section.{rises, kind_number, onward, payload_at, length_at, kind_at, section_at}
+use Rattle.payloads.specs.declared.form.Form.TheVariants.{Listed, Grid}
+use Rattle.sections.specs.Section.{rises, kind_number, onward, payload_at, length_at, kind_at, section_at, placed}
 use Rattle.sections.specs.declared.Section.{Section}
-use Rattle.sections.specs.declared.Section.TheVariants.{Placed, Refused}
 
 pub record Lies (l : List ℕ) (at kind start end : ℕ) : Type 0 where
   pub further : at < end
@@ -32,9 +27,9 @@ pub record Lies (l : List ℕ) (at kind start end : ℕ) : Type 0 where
 abbrev pub Numbered : ℕ → Type 0
 Numbered n = (40 ≤ n) × (n ≤ 46)
 
-abbrev pub Sectioned : List ℕ → ℕ → Section → Type 0
-Sectioned l at (Placed kind start end) = Lies l at kind start end
-Sectioned l at (Refused n) = Numbered n
+abbrev pub Sectioned : List ℕ → ℕ → Result Section ℕ → Type 0
+Sectioned l at (Ok s) = Lies l at s.kind s.start s.end
+Sectioned l at (Err n) = Numbered n
 
 -- ---- a chain of tests gives 0 or one of the file's numbers
 abbrev pub NumberedOrNone : ℕ → Type 0
@@ -54,36 +49,35 @@ judged_or (suc n) later h k = h
 judged_form : (kind : ℕ) → NumberedOrNone (form_number (form_of kind))
 judged_form = each_form (λ form. NumberedOrNone (form_number form)) judged_none judged_none judged_none (λ _. (omega arith, omega arith))
 
-judged_count : (limit end : ℕ) (n : Number) → NumberedOrNone (count_number limit end n)
+judged_count : (limit end : ℕ) (n : Result Number Fault) → NumberedOrNone (count_number limit end n)
 unfolding count_number
-judged_count limit end (Read count next) =
-    judged_or _ _ (judged_unless (leb count limit) 45 (omega arith, omega arith)) (judged_unless (eqb (end - next) (8 * count)) 45 (omega arith, omega arith))
-judged_count limit end Cut = λ _. (omega arith, omega arith)
-judged_count limit end Faulty = λ _. (omega arith, omega arith)
+judged_count limit end (Ok n) =
+    judged_or _ _ (judged_unless (leb n.value limit) 45 (omega arith, omega arith)) (judged_unless (eqb (end - n.next) (8 * n.value)) 45 (omega arith, omega arith))
+judged_count limit end (Err Cut) = λ _. (omega arith, omega arith)
+judged_count limit end (Err Faulty) = λ _. (omega arith, omega arith)
 
-judged_payload : (l : List ℕ) (form : Form) (start end : ℕ) → NumberedOrNone (form_number form) → NumberedOrNone (payload_number l form start end)
+judged_payload : (l : List ℕ) (form : Result Form ℕ) (start end : ℕ) → NumberedOrNone (form_number form) → NumberedOrNone (payload_number l form start end)
 unfolding payload_number grid_number
-judged_payload l (Listed limit) start end h = judged_count limit end (read_at l start end)
-judged_payload l Grid start end h =
+judged_payload l (Ok (Listed limit)) start end h = judged_count limit end (read_at l start end)
+judged_payload l (Ok Grid) start end h =
     judged_or _ _ (judged_unless (eqb (end - start) 17) 45 (omega arith, omega arith)) (judged_unless (leb (get_or l (start + 16) 0) 1) 45 (omega arith, omega arith))
-judged_payload l (NoForm n) start end h = h
+judged_payload l (Err n) start end h = h
 
 -- ---- in reading order
 module _ (l : List ℕ) (at : ℕ) where
-  pub answered_found : (n : ℕ) (s : Section) → NumberedOrNone n → (n ≡ 0 → Sectioned l at s) → Sectioned l at (answered s Refused n)
+  pub answered_found : (n : ℕ) (s : Result Section ℕ) → NumberedOrNone n → (n ≡ 0 → Sectioned l at s) → Sectioned l at (answered s Err n)
   answered_found zero s h f = f refl
   answered_found (suc n) s h f = h (suc-ne-zero n)
 
-  onward_found : (from : ℕ) (n : Number) (later : ℕ → ℕ → Section) → Known l from (length l) n
+  onward_found : (from : ℕ) (n : Result Number Fault) (later : ℕ → ℕ → Result Section ℕ) → Known l from (length l) n
       → ((value next : ℕ) → from < next → next ≤ length l → Sectioned l at (later value next)) → Sectioned l at (onward n later)
-  onward_found from (Read value next) later g h = h value next (omega (arith, g.after)) (omega (arith, g.after, g.held))
-  onward_found from Cut later g h = (omega arith, omega arith)
-  onward_found from Faulty later g h = (omega arith, omega arith)
+  onward_found from (Ok n) later g h = h n.value n.next (omega (arith, g.after)) (omega (arith, g.after, g.held))
+  onward_found from (Err _) later g h = (omega arith, omega arith)
 
   payload_found : (kind start size : ℕ) → at < start → Sectioned l at (payload_at l kind start size)
   unfolding payload_at
   payload_found kind start size h =
-      answered_found (unless (leb (start + size) (length l)) 44 or payload_number l (form_of kind) start (start + size)) (Placed kind start (start + size))
+      answered_found (unless (leb (start + size) (length l)) 44 or payload_number l (form_of kind) start (start + size)) (Ok (placed kind start (start + size)))
       (judged_or _ _ (judged_unless (leb (start + size) (length l)) 44 (omega arith, omega arith)) (judged_payload l (form_of kind) start (start + size) (judged_form kind)))
       (λ e.
       let p = or_none (unless (leb (start + size) (length l)) 44) (payload_number l (form_of kind) start (start + size)) e in
@@ -109,5 +103,5 @@ module _ (l : List ℕ) (at : ℕ) where
       onward_found at (read_at l at (length l)) (λ kind next. kind_at l previous kind next) (known l at (length l))
       (λ kind next a b. kind_found previous kind next a)
 
-pub placed_lies : (l : List ℕ) (at previous kind start end : ℕ) → Placed kind start end ≡ section_at l at previous → Lies l at kind start end
+pub placed_lies : (l : List ℕ) (at previous kind start end : ℕ) → Ok (placed kind start end) ≡ section_at l at previous → Lies l at kind start end
 placed_lies l at previous kind start end e = subst (Sectioned l at) (sym e) (section_found l at previous)

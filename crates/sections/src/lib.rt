@@ -1,94 +1,78 @@
-// One section of a cut file: its kind, its payload's length and its payload, or the number of the first fault. Document 02, request 4, decides.
+// One section of a cut file: its kind, its payload's length and its payload, or the first fault. Document 02, request 4, decides.
 #![tactic(auto)]
 
-ghost use Rattle.std.specs.Prelude.{◌≡◌};
-ghost use Rattle.refusals.specs.Outcome.{answered};
-ghost use Rattle.sections.specs.Section.{rises, kind_number, payload_at, length_at, kind_at, section_at};
+ghost use Rattle.std.specs.Prelude.{◌≡◌, length};
+ghost use Rattle.refusals.specs.Refusal.{number_in, numbered};
+ghost use Rattle.groups.specs.Groups.{read_at};
+ghost use Rattle.sections.specs.Section.{rises, kind_number, whole, payload_at, length_at, kind_at, section_at};
 
 use groups::Number;
-use payloads::form::{form_number, form_of};
+use payloads::form::form_of;
 use payloads::judging::payload_number;
-use refusals::chain::{or, unless};
+use refusals::refusal::Refusal;
 
-// A section whose payload goes from one place to another, or a refusal.
+// Its payload goes from one place of the file to another.
 #[derive(Clone, Copy)]
-pub enum Section {
-    Placed { kind: u64, start: usize, end: usize },
-    Refused(u64),
+pub struct Section {
+    pub kind: u64,
+    pub start: usize,
+    pub end: usize,
 }
 
 // The first section has none before it, so 0 stands there.
 fn rises(previous: u64, kind: u64) -> bool
     ensures { result ≡ rises previous kind }
 {
-    if previous == 0 { true } else { previous < kind }
+    previous == 0 || previous < kind
 }
 
-fn kind_number(previous: u64, kind: u64) -> u64
-    ensures { result ≡ kind_number previous kind }
+fn kind_number(previous: u64, kind: u64) -> Result<(), Refusal>
+    ensures { number_in result ≡ kind_number previous kind }
 {
-    let falling = unless(rises(previous, kind), 43);
-    let unknown = form_number(form_of(kind));
-    or(falling, unknown)
+    Refusal::KindNotRising.unless(rises(previous, kind))?;
+    form_of(kind)?;
+    Ok(())
 }
 
-// The section, unless its payload has a fault.
-fn placed(kind: u64, start: usize, end: usize, number: u64) -> Section
-    ensures { result ≡ answered (Section.Placed kind start end) Section.Refused number }
+fn number_at(file: &[u8], at: usize) -> Result<Number, Refusal>
+    ensures { numbered result ≡ whole (read_at file.now at (length file.now)) }
 {
-    if number == 0 {
-        Section::Placed { kind, start, end }
-    } else {
-        Section::Refused(number)
-    }
+    groups::read(file, at, file.len()).map_err(|_| Refusal::FileNumber)
 }
 
 // Nothing of the payload is looked at before its length is known to lie in the file.
-fn payload_at(file: &[u8], kind: u64, start: usize, size: u64) -> Section
-    ensures { result ≡ payload_at file.now kind start size }
+#[tactic(auto, unfolding(crate::specs::Section::payload_at, payloads::specs::Payload::payload_number))]
+fn payload_at(file: &[u8], kind: u64, start: usize, size: u64) -> Result<Section, Refusal>
+    ensures { numbered result ≡ payload_at file.now kind start size }
 {
-    if start <= file.len() {
-        if size <= (file.len() - start) as u64 {
-            let end = start + size as usize;
-            return placed(
-                kind,
-                start,
-                end,
-                payload_number(file, form_of(kind), start, end),
-            );
-        }
-    }
-    Section::Refused(44)
+    let fits = start <= file.len() && size <= (file.len() - start) as u64;
+    Refusal::PayloadBeyondFile.unless(fits)?;
+    let end = start + size as usize;
+    payload_number(file, form_of(kind), start, end)?;
+    Ok(Section { kind, start, end })
 }
 
-fn length_at(file: &[u8], kind: u64, at: usize) -> Section
-    ensures { result ≡ length_at file.now kind at }
+#[tactic(auto, unfolding(crate::specs::Section::length_at))]
+fn length_at(file: &[u8], kind: u64, at: usize) -> Result<Section, Refusal>
+    ensures { numbered result ≡ length_at file.now kind at }
 {
-    match groups::read(file, at, file.len()) {
-        Number::Read { value, next } => payload_at(file, kind, next, value),
-        Number::Cut => Section::Refused(41),
-        Number::Faulty => Section::Refused(41),
-    }
+    let Number { value, next } = number_at(file, at)?;
+    payload_at(file, kind, next, value)
 }
 
-fn kind_at(file: &[u8], previous: u64, kind: u64, at: usize) -> Section
-    ensures { result ≡ kind_at file.now previous kind at }
+#[tactic(auto, unfolding(crate::specs::Section::kind_at))]
+fn kind_at(file: &[u8], previous: u64, kind: u64, at: usize) -> Result<Section, Refusal>
+    ensures { numbered result ≡ kind_at file.now previous kind at }
 {
-    let number = kind_number(previous, kind);
-    if number == 0 {
-        length_at(file, kind, at)
-    } else {
-        Section::Refused(number)
-    }
+    kind_number(previous, kind)?;
+    length_at(file, kind, at)
 }
 
 // The section at a place, after one of kind `previous`.
-pub fn section_at(file: &[u8], at: usize, previous: u64) -> Section
-    ensures { result ≡ section_at file.now at previous }
+#[tactic(auto, unfolding(crate::specs::Section::section_at))]
+pub fn section_at(file: &[u8], at: usize, previous: u64) -> Result<Section, Refusal>
+    ensures { numbered result ≡ section_at file.now at previous }
 {
-    match groups::read(file, at, file.len()) {
-        Number::Read { value, next } => kind_at(file, previous, value, next),
-        Number::Cut => Section::Refused(41),
-        Number::Faulty => Section::Refused(41),
-    }
+    let Number { value, next } = number_at(file, at)?;
+    kind_at(file, previous, value, next)
 }

@@ -1,16 +1,9 @@
 -- The whole walk, stage by stage: each step is recovery's answer until the walk is full, and nothing is committed from then on. Assumes nothing.
-use Prim.Native.Nat.{ℕ, zero, suc, ◌+◌, ◌-◌}
-use mathlib.Core.Path.{◌≡◌, refl, sym, ap, ◌∙◌}
-use mathlib.Core.List.{List, [], ◌∷◌}
-use mathlib.Core.Bool.{Bool, true, false, cond}
-use native.Mathlib.Omega.{arith}
-use borrow.Author.Tests.{ltb-true, ltb-false}
-use lib.Dec.{ltb}
-use lib.ListN.{take}
+use Rattle.std.proofs.Common.{ℕ, zero, suc, ◌+◌, ◌-◌, ◌≡◌, refl, sym, ap, ◌∙◌, List, [], ◌∷◌, Bool, true, false, cond, ltb, take, arith, Ok, Err}
+use Rattle.std.proofs.lemmas.Bool.{ltb-true, ltb-false}
 use lib.Ieee.{Float}
 use Rattle.refusals.specs.Most.{most_stations}
-use Rattle.search.specs.declared.answer.Answer.{Answer}
-use Rattle.search.specs.declared.answer.Answer.TheVariants.{Certified, Refused}
+use Rattle.search.specs.Answer.{Answer}
 use Rattle.topp2_ra.specs.Recovery.{recovered}
 use Rattle.walk.specs.declared.state.Walk.{Walk}
 use Rattle.walk.specs.Walking.{next_request, advanced, step_answer, stepped}
@@ -34,13 +27,13 @@ Holds w l = committed w l ≡ take (room w) (on_from w l)
 
 -- one stage, its answer given
 stage : (w : Walk) (g : Stage) (l : List Stage) → ((v : Walk) → Holds v l) → (a : Answer) (b : Bool) → ltb w.count most_stations ≡ b
-    → let c = cond b a (Refused 61) in
+    → let c = cond b a (Err 61) in
     speed_then c (committed (advanced w g.station c) l) ≡ take (room w) (afterwards a (λ x. stage_by_stage w.tolerances x g.station l) (on_from w l))
-stage w g l holds (Certified x n r t) true e =
-    let later = stage_by_stage w.tolerances x g.station l in
+stage w g l holds (Ok c) true e =
+    let later = stage_by_stage w.tolerances c.speed g.station l in
     let one_more : room w ≡ suc (most_stations - (w.count + 1)) = omega (arith, ltb-true w.count most_stations e) in
-    ap (λ (l : List Float). x ∷ l) (holds (advanced w g.station (Certified x n r t))) ∙ sym (ap (λ (k : ℕ). take k (x ∷ later)) one_more)
-stage w g l holds (Refused k) true e = holds w
+    ap (λ (l : List Float). c.speed ∷ l) (holds (advanced w g.station (Ok c))) ∙ sym (ap (λ (k : ℕ). take k (c.speed ∷ later)) one_more)
+stage w g l holds (Err k) true e = holds w
 stage w g l holds a false e =
     let full : room w ≡ 0 = omega (arith, ltb-false w.count most_stations e) in
     holds w ∙ take_none (room w) (on_from w l) full ∙ sym (take_none (room w) _ full)

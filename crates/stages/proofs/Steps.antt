@@ -1,12 +1,10 @@
 -- Demand 3 for each step: each field is its sentence's law of recovery. Assumes nothing.
-use Prim.Native.Nat.{ℕ}
-use mathlib.Core.Path.{◌≡◌}
-use mathlib.Core.List.{List}
+use Rattle.std.proofs.Common.{ℕ, ◌≡◌, List, Ok}
 use lib.Ieee.{Float}
 use Rattle.rows.specs.Rows.{rows_of}
 use Rattle.limits.specs.declared.request.Station.{Station}
 use Rattle.limits.specs.declared.request.Request.{Request}
-use Rattle.search.specs.declared.answer.Answer.TheVariants.{Certified}
+use Rattle.search.specs.Answer.{certified}
 use Rattle.topp2_ra.specs.Recovery.{recovered}
 use Rattle.passing.specs.Demand.{Doubles}
 use Rattle.passing.proofs.NoGap as gaps
@@ -22,7 +20,7 @@ module _ (w : Walk) (s : Station) (l : List Float) where
   abbrev q : Request
   q = next_request w s
 
-  accepted_step : (x n r : Float) (t : ℕ) → (stepped w s l).answer ≡ Certified x n r t → recovered q l ≡ Certified x n r t
+  accepted_step : (x n r : Float) (t : ℕ) → (stepped w s l).answer ≡ Ok (certified x n r t) → recovered q l ≡ Ok (certified x n r t)
   unfolding stepped
   accepted_step x n r t e = accepted w s l x n r t e
 

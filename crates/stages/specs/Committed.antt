@@ -1,10 +1,9 @@
 -- A whole walk: the speeds that it commits are those of recovery called stage by stage.
-use Rattle.std.specs.Prelude.{ℕ, ◌-◌, ◌≡◌, List, [], ◌∷◌, take, Float}
+use Rattle.std.specs.Prelude.{ℕ, ◌-◌, ◌≡◌, Ok, Err, List, [], ◌∷◌, take, Float}
 use Rattle.refusals.specs.Most.{most_stations}
 use Rattle.limits.specs.declared.request.Station.{Station}
 use Rattle.limits.specs.declared.request.Tolerances.{Tolerances}
-use Rattle.search.specs.declared.answer.Answer.{Answer}
-use Rattle.search.specs.declared.answer.Answer.TheVariants.{Certified, Refused}
+use Rattle.search.specs.Answer.{Answer}
 use Rattle.topp2_ra.specs.Recovery.{recovered}
 use Rattle.walk.specs.declared.state.Walk.{Walk}
 use Rattle.walk.specs.Walking.{stepped}
@@ -16,8 +15,8 @@ pub record Stage : Type 0 where
 
 -- the speed of an answer, and what follows it; a refusal has none
 abbrev pub speed_then : Answer → List Float → List Float
-speed_then (Certified x n r t) later = x ∷ later
-speed_then (Refused k) later = later
+speed_then (Ok c) later = c.speed ∷ later
+speed_then (Err k) later = later
 
 -- the speeds that a walk commits along the stages: those of the steps that are accepted
 unfoldable pub committed : Walk → List Stage → List Float
@@ -26,8 +25,8 @@ committed w (g ∷ l) = let r = stepped w g.station g.rows in speed_then r.answe
 
 -- what follows an answer: after a speed what follows from there, after a refusal what follows from where one was
 abbrev pub afterwards : Answer → (Float → List Float) → List Float → List Float
-afterwards (Certified x n r t) from same = x ∷ from x
-afterwards (Refused k) from same = same
+afterwards (Ok c) from same = c.speed ∷ from c.speed
+afterwards (Err k) from same = same
 
 -- recovery called stage by stage, each time with the speed that was committed last and the station that has it
 unfoldable pub stage_by_stage : Tolerances → Float → Station → List Stage → List Float

@@ -1,5 +1,5 @@
 -- The starred cases of document 01, in its order. A double is written as its pattern.
-use Rattle.std.specs.Prelude.{◌≡◌, true, List, [], ◌∷◌, ℕ, ◌-◌, length as count, Float}
+use Rattle.std.specs.Prelude.{◌≡◌, true, Ok, Err, List, [], ◌∷◌, ℕ, ◌-◌, length as count, Float}
 use Rattle.std.specs.Float.{binary64}
 use Rattle.std.specs.Float.Ieee.{of_bits, to_bits}
 use Rattle.roots.specs.Root.{sqrt_of}
@@ -7,8 +7,7 @@ use Rattle.roots.specs.Hypot.{hypot_of}
 use Rattle.fused.specs.Fused.{fma_of}
 use Rattle.topp2_ra.specs.Recovery.{recovered}
 use Rattle.limits.specs.declared.request.Request.{Request}
-use Rattle.search.specs.declared.answer.Answer.{Answer}
-use Rattle.search.specs.declared.answer.Answer.TheVariants.{Certified, Refused}
+use Rattle.search.specs.Answer.{Answer, certified}
 use Rattle.loops.specs.Upto.{table}
 use Rattle.sloping.specs.Slopes.{slope, slopes_no}
 use Rattle.timing.specs.Times.{time_at, times_no}
@@ -99,14 +98,14 @@ starred =
     -- fma(1 + 2^-52, 1 - 2^-52, -1) = -2^-104; rounded twice it would be 0
     ∷ fusion 0x3ff0_0000_0000_0001 0x3fef_ffff_ffff_fffe 0xbff0_0000_0000_0000 0xb970_0000_0000_0000
     -- no rows: 3, worst 0 and 0, tried 1
-    ∷ recovery 0 [] (Certified (double 0x4008_0000_0000_0000) (double 0) (double 0) 1)
+    ∷ recovery 0 [] (Ok (certified (double 0x4008_0000_0000_0000) (double 0) (double 0) 1))
     -- row (1, 0, 2), feas_tol 0: 2, 0, 0, tried 2
-    ∷ recovery 0 (0x3ff0_0000_0000_0000 ∷ 0 ∷ 0x4000_0000_0000_0000 ∷ []) (Certified (double 0x4000_0000_0000_0000) (double 0) (double 0) 2)
+    ∷ recovery 0 (0x3ff0_0000_0000_0000 ∷ 0 ∷ 0x4000_0000_0000_0000 ∷ []) (Ok (certified (double 0x4000_0000_0000_0000) (double 0) (double 0) 2))
     -- row (2, 0, 4), feas_tol 0.25: 2.25, 0.25, 0.5, tried 2
     ∷ recovery 0x3fd0_0000_0000_0000 (0x4000_0000_0000_0000 ∷ 0 ∷ 0x4010_0000_0000_0000 ∷ [])
-    (Certified (double 0x4002_0000_0000_0000) (double 0x3fd0_0000_0000_0000) (double 0x3fe0_0000_0000_0000) 2)
+    (Ok (certified (double 0x4002_0000_0000_0000) (double 0x3fd0_0000_0000_0000) (double 0x3fe0_0000_0000_0000) 2))
     -- row (0, 0, -1): 6
-    ∷ recovery 0 (0 ∷ 0 ∷ 0xbff0_0000_0000_0000 ∷ []) (Refused 6)
+    ∷ recovery 0 (0 ∷ 0 ∷ 0xbff0_0000_0000_0000 ∷ []) (Err 6)
     -- s 0, 1, 3; a 0, 4, 4; t0 10: times 10, 11, 12; b 2, 0
     ∷ times knots squares ten stamps
     ∷ slopes knots squares (0x4000_0000_0000_0000 ∷ 0 ∷ [])

@@ -8,10 +8,5 @@ ghost use Rattle.strap_end.specs.Final.{final_added};
 pub fn final_added(asked: bool, t0: f64, time: f64, entry: f64, station: f64) -> bool
     ensures { result ≡ final_added asked t0 time entry station }
 {
-    if asked {
-        if t0 <= time {
-            return !(entry >= station);
-        }
-    }
-    false
+    asked && t0 <= time && !(entry >= station)
 }

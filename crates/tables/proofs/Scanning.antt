@@ -1,7 +1,5 @@
 -- Scans and folds over the table are scans and folds over the rows, and one pass gathers them all.
-use mathlib.Core.Path.{◌≡◌, refl, ap, ◌∙◌}
-use mathlib.Core.Bool.{Bool, true, false, not, ◌&&◌, ◌||◌, cond}
-use mathlib.Core.List.{List, [], ◌∷◌}
+use Rattle.std.proofs.Common.{◌≡◌, refl, ap, ◌∙◌, Bool, true, false, not, ◌&&◌, ◌||◌, cond, List, [], ◌∷◌}
 use lib.Ieee.{Float}
 use Rattle.rows.specs.Rows.{Row, fold, any}
 use Rattle.rows.specs.Row.{empty}

@@ -1,7 +1,6 @@
 -- The certificate of the table is the certificate of the rows, where no row is unfit or unmeetable.
-use mathlib.Core.Path.{◌≡◌, refl, ap, ◌∙◌, fun_ext}
-use mathlib.Core.Bool.{Bool, true, false, ◌&&◌, ◌||◌, cond}
-use mathlib.Core.List.{List, [], ◌∷◌}
+use Rattle.std.proofs.Common.{◌≡◌, refl, ap, ◌∙◌, Bool, true, false, ◌&&◌, ◌||◌, cond, Option, Some, None, is_some, Ok, List, [], ◌∷◌}
+use mathlib.Core.Path.{fun_ext}
 use lib.Ieee.{Float}
 use Rattle.number.specs.Doubles.{zero}
 use Rattle.number.proofs.Order.{fails}
@@ -10,24 +9,21 @@ use Rattle.rows.specs.Row.{empty, unfit, unmeetable}
 use Rattle.rows.specs.Reading.{block_of, reading_of}
 use Rattle.rows.specs.Judging.{judged}
 use Rattle.rows.specs.declared.block.Block.{Block}
-use Rattle.rows.specs.declared.judging.Judged.{Judged}
-use Rattle.rows.specs.declared.judging.Judged.TheVariants.{Broken, Fits}
-use Rattle.rows.specs.declared.reading.Reading.TheVariants.{Silent, Says}
+use Rattle.rows.specs.declared.judging.Residuals.{Residuals}
 use Rattle.limits.specs.Bounds.{span_of}
 use Rattle.limits.specs.declared.request.Request.{Request}
 use Rattle.limits.specs.declared.projection.Span.{Span}
-use Rattle.certificates.specs.Certificate.{between, certificate}
+use Rattle.certificates.specs.Certificate.{between, figures, Certificate, certificate}
 use Rattle.certificates.specs.RowByRow.{inside, counted, counted_reading, counted_row}
-use Rattle.certificates.specs.declared.certificate.Certificate.{Certificate}
-use Rattle.certificates.specs.declared.certificate.Certificate.TheVariants.{Passed, Failed}
+use Rattle.certificates.specs.declared.certificate.Figures.{Figures}
 use Rattle.certificates.proofs.Verdicts.{verdict}
 use Rattle.certificates.proofs.Certificates.{inside_bounds, certificate_counted}
 use Rattle.tables.specs.Table.{blocks}
-use Rattle.tables.specs.ByBlocks.{counted_block, certificate_on, fits, fits_block, passes_on}
+use Rattle.tables.specs.ByBlocks.{counted_block, certificate_on, fits_block, passes_on}
 
 -- ---- what the loop over the blocks keeps
 
-pub failed_stays : (tol x : Float) (bs : List Block) → fold (counted_block tol x) Failed bs ≡ Failed
+pub failed_stays : (tol x : Float) (bs : List Block) → fold (counted_block tol x) None bs ≡ None
 unfolding fold counted
 failed_stays tol x [] = refl
 failed_stays tol x (b ∷ bs) = failed_stays tol x bs
@@ -35,22 +31,22 @@ failed_stays tol x (b ∷ bs) = failed_stays tol x bs
 -- ---- the verdict alone
 
 module _ (tol x : Float) where
-  verdict_all : (bs : List Block) (n r : Float) → verdict (fold (counted_block tol x) (Passed n r) bs) ≡ all (fits_block tol x) bs
+  verdict_all : (bs : List Block) (f : Figures) → verdict (fold (counted_block tol x) (Some f) bs) ≡ all (fits_block tol x) bs
   unfolding fold all counted
-  verdict_all [] n r = refl
-  verdict_all (b ∷ bs) n r = go (judged tol x b) (λ n r. verdict_all bs n r)
+  verdict_all [] f = refl
+  verdict_all (b ∷ bs) f = go (judged tol x b) (λ f. verdict_all bs f)
     where
-      go : (j : Judged) → ((n r : Float) → verdict (fold (counted_block tol x) (Passed n r) bs) ≡ all (fits_block tol x) bs)
-          → verdict (fold (counted_block tol x) (counted (Passed n r) j) bs) ≡ fits j && all (fits_block tol x) bs
-      go Broken rest = ap verdict (failed_stays tol x bs)
-      go (Fits u v w) rest = rest _ _
+      go : (j : Option Residuals) → ((f : Figures) → verdict (fold (counted_block tol x) (Some f) bs) ≡ all (fits_block tol x) bs)
+          → verdict (fold (counted_block tol x) (counted (Some f) j) bs) ≡ is_some j && all (fits_block tol x) bs
+      go None rest = ap verdict (failed_stays tol x bs)
+      go (Some r) rest = rest _
 
   pub verdict_on : (bounds : Span) (bs : List Block) → verdict (certificate_on tol bounds bs x) ≡ passes_on tol bounds bs x
   unfolding certificate_on passes_on
   verdict_on bounds bs = go (inside bounds x)
     where
-      go : (b : Bool) → verdict (cond b (fold (counted_block tol x) (Passed zero zero) bs) Failed) ≡ b && all (fits_block tol x) bs
-      go true = verdict_all bs zero zero
+      go : (b : Bool) → verdict (cond b (fold (counted_block tol x) (Some (figures zero zero)) bs) None) ≡ b && all (fits_block tol x) bs
+      go true = verdict_all bs (figures zero zero)
       go false = refl
 
 -- ---- the rows by their blocks
@@ -73,7 +69,7 @@ module _ (tol a x : Float) where
   row_counted w rows u m rest c = rw (u, m) (go (empty w))
     where
       go : (e : Bool) → fold (counted_block tol x) c (cond e (blocks tol a rows) (block_of tol a w ∷ blocks tol a rows))
-          ≡ fold (counted_row tol a x) (counted_reading tol x c (cond e Silent (Says (block_of tol a w)))) rows
+          ≡ fold (counted_row tol a x) (counted_reading tol x c (cond e (Ok None) (Ok (Some (block_of tol a w))))) rows
       go true = rest c
       go false = rest (counted_block tol x c (block_of tol a w))
 
@@ -91,5 +87,5 @@ unfolding certificate_on
 table_certificate q rows u m =
     fun_ext
     (λ x.
-    let same = rows_counted q.tolerances.feas q.a_prev x rows u m (Passed zero zero) in
-    rw (inside_bounds q (span_of q) x refl) (ap (λ (c : Certificate). cond (between q x) c Failed) same ∙ certificate_counted q rows x))
+    let same = rows_counted q.tolerances.feas q.a_prev x rows u m (Some (figures zero zero)) in
+    rw (inside_bounds q (span_of q) x refl) (ap (λ (c : Certificate). cond (between q x) c None) same ∙ certificate_counted q rows x))

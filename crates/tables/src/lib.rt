@@ -1,9 +1,10 @@
-// The table of the search, which crate `search` alone uses: each row is worked out once, and every candidate is certified by the table. Document 01, "Recovery",
-// decides. From the bottom up: table, filling, certificate, verdict, projection.
+// The table of the search, which crate `search` alone uses: each row is worked out once, and every candidate
+// is certified by the table. Document 01, "Recovery",
+// decides. From the bottom up: trial, filling, certificate, verdict, projection.
 #![tactic(auto)]
 
 pub mod certificate;
 pub mod filling;
 pub mod projection;
-mod table;
+pub mod trial;
 pub mod verdict;

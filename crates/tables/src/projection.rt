@@ -1,9 +1,9 @@
-// The projection over the table, and refusals 7 and 8 of rows, in one pass: each class is looked for over the whole table, so that row order cannot choose the number.
-ghost use Rattle.std.specs.Prelude.{◌≡◌, ◌||◌};
-ghost use Rattle.tables.specs.Table.{blocks_of};
+// The projection over the table, and refusals 7 and 8 of rows, in one pass: each class is looked for over the
+// whole table, so that row order cannot choose the number.
+ghost use Rattle.std.specs.Prelude.{◌≡◌};
 ghost use Rattle.tables.specs.ByBlocks.{gathered_block, gathered};
 
-use crate::table;
+use crate::trial::Trial;
 use limits::projection;
 use limits::projection::Span;
 use number::size;
@@ -17,12 +17,6 @@ pub struct Gathered {
     pub span: Span,
 }
 
-fn either(a: bool, b: bool) -> bool
-    ensures { result ≡ a || b }
-{
-    if a { true } else { b }
-}
-
 // One row more.
 fn gather_block(tol: f64, g: Gathered, b: Block) -> Gathered
     ensures { result ≡ gathered_block tol g b }
@@ -31,24 +25,24 @@ fn gather_block(tol: f64, g: Gathered, b: Block) -> Gathered
     let unreachable = !size::finite(r);
     let flat = projection::is_flat(b.incline, r);
     Gathered {
-        unreachable: either(g.unreachable, unreachable),
-        flat: either(g.flat, flat),
+        unreachable: g.unreachable || unreachable,
+        flat: g.flat || flat,
         span: projection::cut(g.span, b.incline, r),
     }
 }
 
-pub fn gather(tol: f64, bounds: Span, table: &[f64]) -> Gathered
-    ensures { result ≡ gathered tol bounds (blocks_of table.now) }
-{
-    let mut g = Gathered {
-        unreachable: false,
-        flat: false,
-        span: bounds,
-    };
-    let mut k = 0;
-    while k < table.len() / 8 {
-        g = gather_block(tol, g, table::block_at(table, k));
-        k += 1;
+impl<'a> Trial<'a> {
+    pub fn gather(self) -> Gathered
+        ensures { result ≡ gathered self.entry.tol self.entry.bounds self.entry.table.now }
+    {
+        let mut g = Gathered {
+            unreachable: false,
+            flat: false,
+            span: self.bounds,
+        };
+        for b in self.table {
+            g = gather_block(self.tol, g, *b);
+        }
+        g
     }
-    g
 }

@@ -1,11 +1,10 @@
 -- s to t
-use Rattle.std.specs.Prelude.{ℕ, zero, suc, ◌+◌, ◌/◌, ◌≤◌, ◌≡◌, List, Bool, true, ◌&&◌, leb, length, Float}
+use Rattle.std.specs.Prelude.{ℕ, zero, suc, ◌+◌, ◌/◌, List, Bool, ◌&&◌, leb, length, Float}
 use Rattle.std.specs.Float.{binary64}
 use Rattle.std.specs.Float.Ieee.Scale.{finite}
 use Rattle.number.specs.Doubles.{two, ◌⊕◌, ◌⊖◌, ◌⊗◌, ◌⊘◌}
 use Rattle.roots.specs.Root.{sqrt_of}
 use Rattle.loops.specs.Upto.{every, at}
-use Rattle.loops.specs.Entries.{every_entry}
 use Rattle.refusals.specs.Refusals.{unless, ◌or◌}
 use Rattle.profile.specs.Profile.{profile_no, speed_no}
 use Rattle.byte_lists.specs.Bytes.{in_eights, doubles_of}
@@ -45,14 +44,6 @@ abbrev pub ByteTimes : List ℕ → List ℕ → Float → List ℕ → ℕ → 
 ByteTimes s a t0 old = Replied (times_byte_no s a t0 old) (time_at (doubles_of s) (doubles_of a) t0) (length (doubles_of s)) old
 
 -- ---- cited by inner functions alone
--- lists that passed their checks, and an output with room
-pub record Checked (s a out : List ℕ) : Type 0 where
-  pub some : 1 ≤ length s / 8
-  pub room : length s / 8 ≤ length out / 8
-  pub same : length a / 8 ≡ length s / 8
-  pub stations : every_entry finite (doubles_of s) ≡ true
-  pub speeds : every_entry finite (doubles_of a) ≡ true
-
 -- what is left to refuse: 19
 abbrev pub Settled : List ℕ → List ℕ → Float → List ℕ → ℕ → List ℕ → Type 0
 Settled s a t0 old =

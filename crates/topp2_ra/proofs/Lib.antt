@@ -1,2 +1,1 @@
-pub mod ItselfEqual
 pub mod Refusing

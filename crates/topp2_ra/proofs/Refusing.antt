@@ -1,12 +1,6 @@
 -- Refusals 1 to 4 come first: what is answered where one of them is given, and where none is.
-use Prim.Native.Nat.{ℕ, ◌/◌, ◌%◌}
-use mathlib.Core.Path.{◌≡◌}
-use mathlib.Core.Bool.{true, ◌&&◌}
-use mathlib.Core.List.{List}
-use native.Mathlib.Omega.{arith}
-use borrow.Author.Tests.{leb-true, le-leb}
-use lib.Dec.{eqb, leb}
-use lib.ListN.{length}
+use Rattle.std.proofs.Common.{ℕ, ◌/◌, ◌%◌, ◌≡◌, true, ◌&&◌, Err, List, arith, eqb, leb, length}
+use Rattle.std.proofs.lemmas.Bool.{leb-true, le-leb}
 use lib.Ieee.{Float}
 use Rattle.loops.proofs.Counting.{and_right}
 use Rattle.byte_lists.specs.Bytes.{doubles_of}
@@ -19,7 +13,6 @@ use Rattle.rows.specs.Rows.{rows_of, whole_rows}
 use Rattle.rows.specs.Row.{rows_no}
 use Rattle.limits.specs.declared.request.Request.{Request}
 use Rattle.search.specs.Cap.{with_cap, of_rows, with_rows}
-use Rattle.search.specs.declared.answer.Answer.TheVariants.{Refused}
 use Rattle.topp2_ra.specs.Recovery.{inputs_good, previous_good, current_good, request_no, recovered}
 
 -- refusal 1, of the bytes
@@ -40,8 +33,8 @@ module _ (q : Request) (l : List Float) where
       let whole = unless_none (whole_rows l) 1 (omega arith) (or_none (unless (whole_rows l) 1) later h).0 in
       rw (h, whole_few whole)
 
-  pub one_refused : (number : ℕ) → number ≡ request_no q l → (number ≡ 0 → ⊥) → Refused number ≡ recovered q l
+  pub one_refused : (number : ℕ) → number ≡ request_no q l → (number ≡ 0 → ⊥) → Err number ≡ recovered q l
   unfolding recovered
   one_refused number e h =
-      answered_refused (with_cap q (rows_of l)) Refused (request_no q l or rows_no q.tolerances.feas (rows_of l)) number
+      answered_refused (with_cap q (rows_of l)) Err (request_no q l or rows_no q.tolerances.feas (rows_of l)) number
       (or_stop number (request_no q l) (rows_no q.tolerances.feas (rows_of l)) e h) h

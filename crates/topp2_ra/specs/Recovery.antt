@@ -1,5 +1,6 @@
 -- The whole recovery: refusals 1 to 6 in 01's order, then the cap and the search.
-use Rattle.std.specs.Prelude.{ℕ, Bool, not, ◌&&◌, List, Float}
+use Rattle.std.specs.Prelude.{ℕ, Bool, not, ◌&&◌, Err, List, Float}
+use Rattle.std.specs.Ordering.{is_ge, is_le}
 use Rattle.std.specs.Float.Ieee.{lt, is_nan}
 use Rattle.std.specs.Float.Ieee.Scale.{finite}
 use Rattle.number.specs.Doubles.{zero}
@@ -11,9 +12,8 @@ use Rattle.limits.specs.Bounds.{lower_end, upper_end, lower, upper}
 use Rattle.limits.specs.declared.request.Tolerances.{Tolerances}
 use Rattle.limits.specs.declared.request.Request.{Request}
 use Rattle.search.specs.Cap.{with_cap}
-use Rattle.search.specs.declared.answer.Answer.{Answer}
-use Rattle.search.specs.declared.answer.Answer.TheVariants.{Refused}
-use Rattle.topp2_ra.specs.Tolerant.{approx_order, not_less, not_greater}
+use Rattle.search.specs.Answer.{Answer}
+use Rattle.topp2_ra.specs.Tolerant.{approx_order}
 
 -- 2: "a tolerance not finite or negative; a_prev or a previous interval end not finite; a current end or path cap NaN"
 unfoldable pub tolerance : Float → Bool
@@ -34,8 +34,8 @@ inputs_good q =
 -- "a_prev must by tolerant comparison be neither less than its lower nor greater than its upper"
 unfoldable pub inside_previous : Request → Float → Float → Bool
 inside_previous q low high =
-    not_less (approx_order q.a_prev low q.tolerances.abs q.tolerances.rel)
-    && not_greater (approx_order q.a_prev high q.tolerances.abs q.tolerances.rel)
+    is_ge (approx_order q.a_prev low q.tolerances.abs q.tolerances.rel)
+    && is_le (approx_order q.a_prev high q.tolerances.abs q.tolerances.rel)
 
 -- 3: "previous lower or upper not finite, or a_prev outside"
 unfoldable pub previous_good : Request → Bool
@@ -60,4 +60,4 @@ abbrev pub recovery_no : Request → List Float → ℕ
 recovery_no q l = request_no q l or rows_no q.tolerances.feas (rows_of l)
 
 unfoldable pub recovered : Request → List Float → Answer
-recovered q l = answered (with_cap q (rows_of l)) Refused (recovery_no q l)
+recovered q l = answered (with_cap q (rows_of l)) Err (recovery_no q l)

@@ -1,20 +1,22 @@
 // One step of a walk. 02: "a refused step returns the state unchanged and may be tried again with other rows".
 ghost use Rattle.std.specs.Prelude.{◌<◌, ◌≡◌};
 ghost use Rattle.refusals.specs.Most.{most_stations};
+ghost use Rattle.refusals.specs.Refusal.{numbered};
 ghost use Rattle.byte_lists.specs.Bytes.{doubles_of};
-ghost use Rattle.walk.specs.Walking.{next_request, advanced, stepped};
+ghost use Rattle.walk.specs.Walking.{next_request, advanced, stepped, numbered_step};
 
 use crate::state::Walk;
 use limits::request::{Request, Station};
 use refusals::most;
-use search::answer::Answer;
+use refusals::refusal::Refusal;
+use search::answer::Certified;
 use topp2_ra::recovery::recover_forward_intersection;
 
 // The answer, and the walk after it.
 #[derive(Clone, Copy)]
 pub struct Stepped {
     pub walk: Walk,
-    pub answer: Answer,
+    pub answer: Result<Certified, Refusal>,
 }
 
 fn next_request(w: Walk, station: Station) -> Request
@@ -30,30 +32,25 @@ fn next_request(w: Walk, station: Station) -> Request
     }
 }
 
-fn advance(w: Walk, station: Station, answer: Answer) -> Walk
+fn advance(w: Walk, station: Station, answer: Result<Certified, Refusal>) -> Walk
     requires { w.count < most_stations }
-    ensures { result ≡ advanced w station answer }
+    ensures { result ≡ advanced w station (numbered answer) }
 {
     let tolerances = w.tolerances;
     match answer {
-        Answer::Certified {
-            speed,
-            worst_normalized: _,
-            worst_raw: _,
-            tried: _,
-        } => Walk {
+        Ok(c) => Walk {
             tolerances,
-            speed,
+            speed: c.speed,
             station,
             count: w.count + 1,
         },
-        Answer::Refused(_) => w,
+        Err(_) => w,
     }
 }
 
 impl Walk {
     pub fn step(self, station: Station, rows: &[u8]) -> Stepped
-        ensures { result ≡ stepped self station (doubles_of rows.now) }
+        ensures { numbered_step result ≡ stepped self station (doubles_of rows.now) }
     {
         if self.count < most::STATIONS as u64 {
             let answer = recover_forward_intersection(next_request(self, station), rows);
@@ -62,7 +59,7 @@ impl Walk {
         }
         Stepped {
             walk: self,
-            answer: Answer::Refused(61),
+            answer: Err(Refusal::WalkFull),
         }
     }
 }

@@ -1,15 +1,12 @@
 -- A state read back from its words is the same state; so what a start or a step leaves reads as the walk that it made. Assumes nothing.
-use Prim.Native.Nat.{ℕ, ◌+◌}
-use mathlib.Core.Path.{◌≡◌, refl}
-use mathlib.Core.Bool.{Bool, true, false, cond}
-use mathlib.Core.List.{List}
-use lib.Dec.{T}
-use lib.ListN.{get_or}
+use Rattle.std.proofs.Common.{ℕ, ◌+◌, ◌≡◌, refl, Bool, true, false, cond, Result, Ok, Err, is_ok, List, T, get_or}
+use Rattle.refusals.specs.Refusal.{numbered}
+use Rattle.refusals.specs.declared.refusal.Refusal.{Refusal}
 use lib.Ieee.{Float, binary64, fits, of_bits, to_bits}
 use lib.Ieee.Bits.{of_bits-fits, of_bits-to_bits}
 use Rattle.limits.specs.declared.request.Station.{Station}
-use Rattle.search.specs.declared.answer.Answer.{Answer}
-use Rattle.search.specs.declared.answer.Answer.TheVariants.{Certified, Refused}
+use Rattle.search.specs.Answer.{Answer}
+use Rattle.search.specs.declared.answer.Certified.{Certified}
 use Rattle.passing.specs.Demand.{Doubles}
 use Rattle.passing.proofs.Soundness.{speed_double}
 use Rattle.byte_lists.specs.Bytes.{in_eights, doubles_of}
@@ -45,15 +42,21 @@ module _ (old : List ℕ) (lower upper cap : ℕ) where
   s = station_of lower upper cap
 
   after_reads : (l : List Float) (a : Answer) → step_answer w s l ≡ a → walk_of (words_after a (advanced w s a) old) ≡ advanced w s a
-  after_reads l (Certified x n r t) e =
-      read_back (get_or old 0 0) (get_or old 1 0) (get_or old 2 0) x lower upper cap (get_or old 7 0 + 1)
-      (speed_double (next_request w s) l x n r t (words_doubles w lower upper cap) (accepted w s l x n r t e))
-  after_reads l (Refused k) e = refl
+  after_reads l (Ok c) e =
+      read_back (get_or old 0 0) (get_or old 1 0) (get_or old 2 0) c.speed lower upper cap (get_or old 7 0 + 1)
+      (speed_double (next_request w s) l c.speed c.worst_normalized c.worst_raw c.tried (words_doubles w lower upper cap)
+      (accepted w s l c.speed c.worst_normalized c.worst_raw c.tried e))
+  after_reads l (Err k) e = refl
 
   pub step_reads : (rows : List ℕ) → walk_of (words_left (stepped_bytes w s rows) old) ≡ (stepped_bytes w s rows).walk
   unfolding stepped_bytes stepped
   step_reads rows = go (in_eights rows)
     where
-      go : (b : Bool) → let r = cond b (stepped w s (doubles_of rows)) (record { walk = w; answer = Refused 10 }) in walk_of (words_left r old) ≡ r.walk
+      go : (b : Bool) → let r = cond b (stepped w s (doubles_of rows)) (record { walk = w; answer = Err 10 }) in walk_of (words_left r old) ≡ r.walk
       go true = after_reads (doubles_of rows) (step_answer w s (doubles_of rows)) refl
       go false = refl
+
+-- what a refusal leaves of the words
+pub left_alone : (a : Result Certified Refusal) (w : Walk) (old : List ℕ) → is_ok a ≡ false → old ≡ words_after (numbered a) w old
+left_alone (Ok c) w old h = cc
+left_alone (Err e) w old h = refl

@@ -1,49 +1,40 @@
 // A step on a byte list of rows, and what it leaves of the words.
 ghost use Rattle.std.specs.Prelude.{◌≡◌};
 ghost use Rattle.requests.specs.FromPatterns.{station_of};
+ghost use Rattle.walk.specs.Walking.{numbered_step};
 ghost use Rattle.walk_words.specs.Words.{walk_of, stepped_bytes, words_left};
 
 use crate::state::{walk_of, words_of};
 use limits::request::Station;
+use refusals::refusal::Refusal;
 use requests::from_patterns::station_of;
-use search::answer::Answer;
 use walk::state::Walk;
 use walk::step::Stepped;
 
 pub fn step_bytes(w: Walk, station: Station, rows: &[u8]) -> Stepped
-    ensures { result ≡ stepped_bytes w station rows.now }
+    ensures { numbered_step result ≡ stepped_bytes w station rows.now }
 {
     if rows.len() % 8 == 0 {
         return w.step(station, rows);
     }
     Stepped {
         walk: w,
-        answer: Answer::Refused(10),
+        answer: Err(Refusal::NotEights),
     }
 }
 
 // From eight words to the station of three patterns.
 pub fn step_words(words: [u64; 8], lower: u64, upper: u64, cap: u64, rows: &[u8]) -> Stepped
-    ensures { result ≡ stepped_bytes (walk_of words) (station_of lower upper cap) rows.now }
+    ensures { numbered_step result ≡ stepped_bytes (walk_of words) (station_of lower upper cap) rows.now }
 {
     step_bytes(walk_of(words), station_of(lower, upper, cap), rows)
 }
 
 // A refused step writes nothing.
 pub fn leave(r: Stepped, words: &mut [u64; 8])
-    ensures { words.new ≡ words_left r words.old }
+    ensures { words.new ≡ words_left (numbered_step r) words.old }
 {
-    let answer = r.answer;
-    let walk = r.walk;
-    match answer {
-        Answer::Certified {
-            speed: _,
-            worst_normalized: _,
-            worst_raw: _,
-            tried: _,
-        } => {
-            *words = words_of(walk);
-        }
-        Answer::Refused(_) => {}
+    if r.answer.is_ok() {
+        *words = words_of(r.walk);
     }
 }

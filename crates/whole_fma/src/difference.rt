@@ -8,10 +8,7 @@ use limbs::wide::Wide;
 fn borrow(a: u64, b: u64) -> u64
     ensures { result ≡ borrowed a b }
 {
-    if a < b {
-        return 1;
-    }
-    0
+    u64::from(a < b)
 }
 
 pub(crate) fn less(a: Wide, b: Wide) -> bool
@@ -29,6 +26,6 @@ pub(crate) fn minus(a: Wide, b: Wide) -> Wide
     let w = borrow(a.lo, b.lo);
     Wide {
         hi: a.hi - (b.hi + w),
-        lo: std::num::wrapping_sub_u64(a.lo, b.lo),
+        lo: a.lo.wrapping_sub(b.lo),
     }
 }

@@ -12,12 +12,7 @@ use rounding::packing::rounded;
 fn some_nan(x: f64, y: f64, z: f64) -> bool
     ensures { result ≡ (is_nan x || (is_nan y || is_nan z)) }
 {
-    if x == x {
-        if y == y {
-            return z != z;
-        }
-    }
-    true
+    x.is_nan() || y.is_nan() || z.is_nan()
 }
 
 // Patterns of finite values, none of them a zero. A value is m * 2^k / 2^1127, so that in steps of 2^-2400, which `rounded` takes, the product is
@@ -43,21 +38,15 @@ pub fn in_whole_numbers(x: f64, y: f64, z: f64) -> f64
     if some_nan(x, y, z) {
         return x * y + z;
     }
-    let a = f64::to_bits(x);
-    let b = f64::to_bits(y);
-    let c = f64::to_bits(z);
+    let a = x.to_bits();
+    let b = y.to_bits();
+    let c = z.to_bits();
     if !all_normal(a, b, c) {
-        if special(a) {
-            return x * y + z;
-        }
-        if special(b) {
+        if special(a) || special(b) {
             return x * y + z;
         }
         if special(c) {
-            if z == 0.0 {
-                return x * y;
-            }
-            return z;
+            return if z == 0.0 { x * y } else { z };
         }
     }
     finite(a, b, c)

@@ -9,10 +9,7 @@ fn cut_word(w: u64, sh: u64) -> u64
     ensures { result ≡ cut w sh }
 {
     if sh > 63 {
-        if w == 0 {
-            return 0;
-        }
-        return 1;
+        return if w == 0 { 0 } else { 1 };
     }
     let q = w >> sh;
     if q << sh == w {

@@ -59,10 +59,8 @@ pub(crate) fn joined(s: bool, a: Wide, t: bool, b: Wide) -> Total
         };
     }
     let d = minus(a, b);
-    if d.hi == 0 {
-        if d.lo == 0 {
-            return Total { neg: false, n: d };
-        }
+    if d.hi == 0 && d.lo == 0 {
+        return Total { neg: false, n: d };
     }
     Total { neg: s, n: d }
 }
@@ -78,7 +76,7 @@ pub(crate) fn narrow(n: Wide, k: u64) -> Parts
             k: k + 64,
         };
     }
-    let sh = 64 - u64::leading_zeros(n.hi) as u64;
+    let sh = 64 - n.hi.leading_zeros() as u64;
     Parts {
         m: cut_wide(n, sh).lo,
         k: k + sh,

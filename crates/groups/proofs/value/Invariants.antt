@@ -1,10 +1,6 @@
-use Prim.Native.Nat.{◌≤◌}
 use Rattle.groups.specs.Groups.{value_of}
 use Rattle.groups.proofs.Values.{Down}
 use Rattle.groups.proofs.value.Given as goal
 
 abbrev pub invariant-loop-k : goal.invariant-loop-k
-invariant-loop-k l = (l.k ≤ l.n) × Down l.bytes l.at l.k l.value (value_of l.bytes l.at l.n)
-
-abbrev pub decreases-loop-k : goal.decreases-loop-k
-decreases-loop-k l = l.k
+invariant-loop-k l = Down l.bytes l.at l.k l.value (value_of l.bytes l.at l.n)

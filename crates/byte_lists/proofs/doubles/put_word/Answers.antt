@@ -1,10 +1,9 @@
-use Prim.Native.Nat.{ℕ, ◌+◌, ◌/◌, ◌^◌}
-use mathlib.Core.Path.{ap, ◌∙◌}
-use mathlib.Core.List.{List}
-use Rattle.byte_lists.specs.Bytes.{four_put}
+use Rattle.std.proofs.Common.{sym, ◌∙◌, arith}
+use Rattle.byte_lists.proofs.Eights.{word_put_is, part_put}
 use Rattle.byte_lists.proofs.doubles.put_word.Goals as goal
 
 pub returns : goal.returns
 returns c =
     let a = c.args in
-    c.put_four-2.ensures ∙ ap (λ (l : List ℕ). four_put l (a.i + 4) (a.w / 2 ^ 32)) c.put_four.ensures
+    part_put a.i _ a.b.now _ _ (c.copy_from_slice.ensures.after ∙ c.to_le_bytes.ensures) (omega arith) (omega arith)
+    ∙ sym (word_put_is a.b.now a.i a.w)

@@ -1,4 +1,4 @@
-use mathlib.Core.Path.{sym, ◌∙◌}
+use Rattle.std.proofs.Common.{sym, ◌∙◌}
 use Rattle.rows.specs.Rows.{rows_of}
 use Rattle.byte_lists.specs.Bytes.{doubles_of}
 use Rattle.certificates.proofs.Certificates.{inside_bounds, certificate_counted}
@@ -11,8 +11,8 @@ returns-then-is_inside c =
     let b = sym (c.is_inside.ensures ∙ inside_bounds a.q s.result a.x s.ensures) ∙ c.if-is_inside.true in
     simp (← certificate_counted a.q (rows_of (doubles_of a.rows.now)) a.x, b, ← c.certify_rows.ensures)
 
-pub returns : goal.returns
-returns c =
+pub returns-else-is_inside : goal.returns-else-is_inside
+returns-else-is_inside c =
     let a = c.args in
     let s = c.span in
     let b = sym (c.is_inside.ensures ∙ inside_bounds a.q s.result a.x s.ensures) ∙ c.if-is_inside.false in

@@ -1,47 +1,32 @@
-use Prim.Native.Nat.{◌+◌}
-use mathlib.Core.Path.{refl, sym, ap, ◌∙◌}
-use native.Mathlib.Omega.{arith}
-use lib.ListN.{drop}
-use Rattle.rows.specs.Rows.{rows_of, fold}
-use Rattle.rows.proofs.RowScans.{read_at, fold_at, fold_end}
+use Rattle.std.proofs.Common.{sym, ap, ◌∙◌, ◌+◌, ◌*◌, Some}
+use Rattle.rows.proofs.RowScans.{read_at}
 use Rattle.byte_lists.specs.Bytes.{doubles_of}
-use Rattle.byte_lists.proofs.Fronts.{length_doubles}
-use Rattle.certificates.specs.RowByRow.{counted_reading, counted_row}
-use Rattle.certificates.specs.declared.certificate.Certificate.{Certificate}
-use Rattle.certificates.proofs.Certificates.{failed_stays}
+use Rattle.certificates.specs.declared.certificate.Figures.{Figures}
+use Rattle.certificates.proofs.RowLoop.{left, none_left, row_left, row_ends}
 use Rattle.certificates.proofs.certificate.certify_rows.Goals as goal
 
-pub loop-i-init : goal.loop-i-init
-loop-i-init c = (omega arith, refl)
-
-pub returns-in-Failed : goal.returns-in-Failed
-returns-in-Failed c =
+pub returns-in_err-worst : goal.returns-in_err-worst
+returns-in_err-worst c =
     let a = c.args in
-    let l = doubles_of a.rows.now in
-    let f = counted_row a.tol a.a a.x in
-    let i = c.loop-i.i in
-    let r = read_at a.tol a.a l i _ _ _ _ c.double_at.ensures c.double_at-in-loop-i.ensures c.double_at-in-loop-i-2.ensures c.read-r.ensures in
-    let e = sym (c.count_reading-c.ensures ∙ ap (counted_reading a.tol a.x c.loop-i.c) r) ∙ c.in-Failed.is in
-    sym (fold_at f c.loop-i.c l i (omega (arith, length_doubles a.rows.now))
-    ∙ ap (λ (v : Certificate). fold f v (rows_of (drop (i + 3) l))) e
-    ∙ failed_stays a.tol a.a a.x (rows_of (drop (i + 3) l)))
-    ∙ c.loop-i.invariant.1
+    let k = c.loop-k.k in
+    let read = read_at a.tol a.a (doubles_of a.rows.now) (3 * k) _ _ _ _ c.double_at.ensures c.double_at-in-loop-k.ensures c.double_at-in-loop-k-2.ensures c.read-r.ensures in
+    c.from_residual.ensures
+    ∙ row_ends a.tol a.a a.x a.rows.now k c.loop-k-test.true _ read (Some c.loop-k.worst) (sym c.count_row.ensures ∙ c.in_err-worst.was)
+    ∙ c.loop-k.invariant
+    ∙ ap (λ (f : Figures). left a.tol a.a a.x a.rows.now 0 (Some f)) c.start-worst.ensures
 
-pub loop-i-preserved : goal.loop-i-preserved
-loop-i-preserved c =
+pub loop-k-preserved : goal.loop-k-preserved
+loop-k-preserved c =
     let a = c.args in
-    let l = doubles_of a.rows.now in
-    let f = counted_row a.tol a.a a.x in
-    let i = c.loop-i.i in
-    let r = read_at a.tol a.a l i _ _ _ _ c.double_at.ensures c.double_at-in-loop-i.ensures c.double_at-in-loop-i-2.ensures c.read-r.ensures in
-    let e = c.count_reading-c.ensures ∙ ap (counted_reading a.tol a.x c.loop-i.c) r in (
-      omega arith,
-      ap (λ (v : Certificate). fold f v (rows_of (drop (i + 3) l))) e
-          ∙ (sym (fold_at f c.loop-i.c l i (omega (arith, length_doubles a.rows.now))) ∙ c.loop-i.invariant.1),
-    )
+    let k = c.loop-k.k in
+    let read = read_at a.tol a.a (doubles_of a.rows.now) (3 * k) _ _ _ _ c.double_at.ensures c.double_at-in-loop-k.ensures c.double_at-in-loop-k-2.ensures c.read-r.ensures in
+    ap (left a.tol a.a a.x a.rows.now (k + 1)) (sym c.in_ok-worst.was ∙ c.count_row.ensures)
+    ∙ row_left a.tol a.a a.x a.rows.now k c.loop-k-test.true _ read (Some c.loop-k.worst)
+    ∙ c.loop-k.invariant
 
 pub returns : goal.returns
 returns c =
     let a = c.args in
-    let l = doubles_of a.rows.now in
-    sym (fold_end (counted_row a.tol a.a a.x) c.loop-i.c l c.loop-i.i (omega (arith, length_doubles a.rows.now))) ∙ c.loop-i.invariant.1
+    sym (none_left a.tol a.a a.x a.rows.now c.loop-k.k (Some c.loop-k.worst) c.loop-k-test.false)
+    ∙ c.loop-k.invariant
+    ∙ ap (λ (f : Figures). left a.tol a.a a.x a.rows.now 0 (Some f)) c.start-worst.ensures

@@ -1,14 +1,19 @@
 use Rattle.certificates.specs.RowByRow.{inside}
 use Rattle.certificates.proofs.certificate.is_inside.Goals as goal
+use Rattle.certificates.proofs.certificate.is_inside.Goals.{then-finite, else-finite}
 
 pub returns-then-s-x : goal.returns-then-s-x
 unfolding inside
-returns-then-s-x c = simp (c.if-s-x.true, c.if-finite.true, ← c.finite.ensures)
+returns-then-s-x c =
+    elim c.if-finite.branch [
+      | then-finite w ↦ rw (← w.if-finite.ensures, ← w.value-is, c.if-s-x.true)
+      | else-finite w ↦ cc w.if-finite.false
+    ]
 
 pub returns-else-s-x : goal.returns-else-s-x
 unfolding inside
-returns-else-s-x c = simp (c.if-s-x.false, c.if-finite.true, ← c.finite.ensures)
-
-pub returns-else-finite : goal.returns-else-finite
-unfolding inside
-returns-else-finite c = simp (c.if-finite.false, ← c.finite.ensures)
+returns-else-s-x c =
+    elim c.if-finite.branch [
+      | then-finite w ↦ rw (← w.if-finite.ensures, ← w.value-is, c.if-s-x.false)
+      | else-finite w ↦ rw (← w.if-finite.ensures) c.if-s-x.false
+    ]

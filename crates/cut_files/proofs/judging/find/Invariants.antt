@@ -1,11 +1,8 @@
-use Prim.Native.Nat.{◌-◌}
-use lib.ListN.{length}
-use Rattle.cut_files.specs.File.{among}
-use Rattle.cut_files.proofs.Going.{Going}
+use Rattle.std.proofs.Common.{◌≡◌}
+use Rattle.cut_files.specs.File.{sections_left, sections_of, among}
 use Rattle.cut_files.proofs.judging.find.Given as goal
 
-abbrev pub invariant-loop-at : goal.invariant-loop-at
-invariant-loop-at l = Going (among l.asked) l.file l.at l.previous
-
-abbrev pub decreases-loop-at : goal.decreases-loop-at
-decreases-loop-at l = length l.file - l.at
+abbrev pub invariant-loop-section : goal.invariant-loop-section
+invariant-loop-section l =
+    let s = l.section-iterator in
+    among l.asked (sections_left s.file.now s.at s.previous) ≡ among l.asked (sections_of l.file)

@@ -13,11 +13,11 @@ interval_from-k-requires c = c.look_from.ensures
 pub overflow_add-k : goal.overflow_add-k
 overflow_add-k c =
     let a = c.args in
-    omega (arith, c.interval_from-k.ensures, interval_le (doubles_of a.t.now) a.x, length_doubles a.t.now)
+    omega (arith, c.interval_from-k.ensures, interval_le (doubles_of a.p.t.now) a.x, length_doubles a.p.t.now)
 
 pub turned-requires : goal.turned-requires
 turned-requires c =
-    (omega (arith, c.interval_from-k.ensures, interval_le (doubles_of c.args.t.now) c.args.x, length_doubles c.args.t.now), c.requires.held)
+    (omega (arith, c.interval_from-k.ensures, interval_le (doubles_of c.args.p.t.now) c.args.x, length_doubles c.args.p.t.now), c.requires.held)
 
 pub returns : goal.returns
 returns c =

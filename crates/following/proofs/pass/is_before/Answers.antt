@@ -1,5 +1,5 @@
-use Rattle.std.proofs.Common.{ap}
-use lib.Ieee.{Float, lt}
+use Rattle.std.proofs.Common.{ap, Float}
+use Rattle.std.specs.Float.Ieee.{lt}
 use Rattle.following.specs.Places.{is_before}
 use Rattle.following.proofs.pass.is_before.Goals as goal
 

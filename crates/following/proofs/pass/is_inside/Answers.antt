@@ -1,4 +1,4 @@
-use Rattle.std.proofs.Common.{sym, ◌∙◌, arith}
+use Rattle.std.proofs.Common.{arith}
 use Rattle.byte_lists.specs.Bytes.{doubles_of}
 use Rattle.byte_lists.proofs.Fronts.{length_doubles}
 use Rattle.following.specs.Places.{is_inside}
@@ -9,11 +9,11 @@ pub overflow_add-result : goal.overflow_add-result
 overflow_add-result c =
     omega (arith, c.requires, interval_le (doubles_of c.args.t.now) c.args.x, length_doubles c.args.t.now)
 
-pub returns-then-is_before : goal.returns-then-is_before
+pub returns-then-not-is_before : goal.returns-then-not-is_before
 unfolding is_inside
-returns-then-is_before c = rw (sym c.is_before.ensures ∙ c.if-is_before.true)
+returns-then-not-is_before c =
+    rw (← c.is_before.ensures, c.if-not-is_before.true, ← c.requires, length_doubles c.args.t.now) (next_within c.args.k _)
 
-pub returns-else-is_before : goal.returns-else-is_before
+pub returns-else-not-is_before : goal.returns-else-not-is_before
 unfolding is_inside
-returns-else-is_before c =
-    rw (sym c.is_before.ensures ∙ c.if-is_before.false, ← c.requires, length_doubles c.args.t.now) (next_within c.args.k _)
+returns-else-not-is_before c = rw (← c.is_before.ensures, c.if-not-is_before.false)

@@ -1,5 +1,5 @@
 use Rattle.std.proofs.Common.{sym, ◌∙◌}
-use lib.Ieee.{of_bits, div}
+use Rattle.std.specs.Float.Ieee.{of_bits, div}
 use Rattle.following.specs.Places.{station_at}
 use Rattle.following.proofs.Cursors.{station_held}
 use Rattle.following.proofs.pass.station.Goals as goal

@@ -2,6 +2,3 @@ use Rattle.following.proofs.pass.stays.Goals as goal
 
 pub returns-then-w-x : goal.returns-then-w-x
 returns-then-w-x c = rw c.if-w-x.true
-
-pub returns-else-w-x : goal.returns-else-w-x
-returns-else-w-x c = rw c.if-w-x.false

@@ -1,4 +1,4 @@
-use mathlib.Core.Path.{refl}
+use Rattle.std.proofs.Common.{refl}
 use Rattle.gridding.specs.Ending.{entry_more}
 use Rattle.gridding.proofs.grid.entry_more.Goals as goal
 

@@ -1,4 +1,4 @@
-use mathlib.Core.Path.{sym, ◌∙◌}
+use Rattle.std.proofs.Common.{sym, ◌∙◌}
 use Rattle.gridding.proofs.grid.finish.Goals as goal
 
 pub returns-then-final_added : goal.returns-then-final_added

@@ -1,5 +1,4 @@
-use Prim.Native.Nat.{ℕ, ◌-◌}
-use mathlib.Core.Path.{sym, ap, ◌∙◌}
+use Rattle.std.proofs.Common.{ℕ, ◌-◌, sym, ap, ◌∙◌}
 use Rattle.loops.specs.Upto.{at}
 use Rattle.byte_lists.specs.Bytes.{doubles_of}
 use Rattle.byte_lists.proofs.Fronts.{length_doubles}

@@ -1,4 +1,4 @@
-use Rattle.std.proofs.Common.{arith}
+use Rattle.std.proofs.Common.{refl, arith}
 use Rattle.limbs.proofs.HalfWords.{halves_fit, sums_fit, high_is, low_is}
 use Rattle.limbs.proofs.wide.product.Goals as goal
 
@@ -29,7 +29,5 @@ overflow_add-result-2 c = record { fits = (sums_fit c.args.a c.args.b c.ranges.a
 pub returns : goal.returns
 returns c = (
   high_is c.args.a c.args.b c.ranges.a.fits c.ranges.b.fits,
-  low_is c.args.a c.args.b c.ranges.a.fits c.ranges.b.fits
-      c.wrapping_add_u64-middle.result c.wrapping_add_u64.result
-      c.wrapping_add_u64-middle.ensures.value c.wrapping_add_u64.ensures.value,
+  low_is c.args.a c.args.b c.ranges.a.fits c.ranges.b.fits _ _ refl refl,
 )

@@ -1,10 +1,5 @@
-use Prim.Native.Nat.{ℕ, ◌+◌}
-use mathlib.Core.Path.{◌≡◌, sym, ap, ◌∙◌}
-use mathlib.Core.Bool.{Bool, cond, ◌&&◌}
-use native.Mathlib.Omega.{arith}
-use lib.ListN.{length}
-use lib.Ieee.{Float}
-use lib.Ieee.Scale.{finite}
+use Rattle.std.proofs.Common.{ℕ, ◌+◌, ◌≡◌, sym, ap, ◌∙◌, Bool, cond, ◌&&◌, arith, length, Float}
+use Rattle.std.specs.Float.Ieee.Scale.{finite}
 use Rattle.loops.specs.Upto.{at}
 use Rattle.loops.specs.Entries.{every_entry}
 use Rattle.loops.proofs.Counting.{every_none, every_next}
@@ -14,7 +9,7 @@ use Rattle.list_tests.proofs.Exponents.{none_more}
 use Rattle.list_tests.proofs.tests.all_finite.Goals as goal
 
 pub loop-k-init : goal.loop-k-init
-loop-k-init c = (omega arith, omega arith, sym (every_none _))
+loop-k-init c = (omega arith, sym (every_none _))
 
 pub overflow_add-count : goal.overflow_add-count
 overflow_add-count c = omega (arith, c.endless-count.ensures.1)
@@ -24,10 +19,9 @@ loop-k-preserved c =
     let l = c.loop-k in
     let b = c.args.b.now in
     let same = pattern_within b l.k _ c.loop-k-test.true c.pattern_at.ensures in (
-      omega arith,
       omega (arith, c.endless-count.ensures.1),
       none_more (finite (at (doubles_of b) l.k)) l.count _ (ap (λ (n : ℕ). l.count + n) (c.endless-count.ensures.0 ∙ ap (λ (x : Float). cond (finite x) 0 1) same))
-          ∙ ap (λ (t : Bool). t && finite (at (doubles_of b) l.k)) l.invariant.2
+          ∙ ap (λ (t : Bool). t && finite (at (doubles_of b) l.k)) l.invariant.1
           ∙ sym (every_next _ l.k),
     )
 
@@ -36,4 +30,4 @@ unfolding every_entry
 returns c =
     let b = c.args.b.now in
     let e : c.loop-k.k ≡ length (doubles_of b) = omega (arith, length_doubles b) in
-    rw e at c.loop-k.invariant.2
+    rw e at c.loop-k.invariant.1

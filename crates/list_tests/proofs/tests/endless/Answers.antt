@@ -1,5 +1,5 @@
 use Rattle.list_tests.proofs.Exponents.{carries}
-use native.Mathlib.Omega.{arith}
+use Rattle.std.proofs.Common.{arith}
 use Rattle.list_tests.proofs.tests.endless.Goals as goal
 
 pub returns : goal.returns

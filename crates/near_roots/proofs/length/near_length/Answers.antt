@@ -1,6 +1,5 @@
 use Rattle.std.proofs.Common.{ℕ, ◌+◌, ◌-◌, ◌*◌, ◌/◌, ◌%◌, ◌^◌, ◌<◌, ◌≤◌, ◌∙◌, lt_of_lt_of_le, lt_of_le_of_lt, arith, lit<}
 use lib.Ieee.{binary64, to_bits}
-use Rattle.number.proofs.Order.{equals_itself, not_nan}
 use Rattle.rounding.proofs.Scaled.{no_nan}
 use Rattle.rounding.proofs.Unpack.{code_field, code_exponent}
 use Rattle.exact_roots.proofs.Parted.{parted}
@@ -11,12 +10,6 @@ use Rattle.near_roots.proofs.length.near_length.Goals as goal
 -- u, as the code has it, is 2 ^ 11 times a number of 53 digits
 digits : (b : ℕ) → (2 ^ 52 ≤ (b % 2 ^ 52 * 2048 + 2 ^ 63) / 2 ^ 11) × ((b % 2 ^ 52 * 2048 + 2 ^ 63) / 2 ^ 11 < 2 ^ 53)
 digits b = (omega arith, omega arith)
-
-pub returns-then-g : goal.returns-then-g
-returns-then-g c o = tt
-
-pub float_to_bits-u : goal.float_to_bits-u
-float_to_bits-u c = let g = c.of_whole-g.result in not_nan g (equals_itself g c.if-g.false)
 
 pub float_from_bits-result : goal.float_from_bits-result
 float_from_bits-result c =

@@ -1,4 +1,4 @@
-use Rattle.std.proofs.Common.{ℕ, ◌%◌, ◌≡◌, ◌*◌, ◌/◌, ◌^◌, ◌<◌, ◌≤◌, le_trans, arith, lit≤, ltb→lt}
+use Rattle.std.proofs.Common.{refl, ℕ, ◌%◌, ◌≡◌, ◌*◌, ◌/◌, ◌^◌, ◌<◌, ◌≤◌, le_trans, arith, lit≤, ltb→lt}
 use Rattle.number.proofs.Order.{holds}
 use Rattle.near_roots.proofs.Tested.{code_wide, room, code_nearest}
 use Rattle.near_roots.proofs.nearest.is_nearest.Goals as goal
@@ -19,10 +19,9 @@ overflow_mul-result c =
 
 pub returns : goal.returns
 returns c t =
-    let v = c.wrapping_sub_u64 in
     let q = c.product-q in
     let d = digits c.args.u c.requires.1 c.requires.2 c.ranges.u.fits in
     let w = code_wide c.args.u (c.args.u / 2 ^ 11) c.args.p d.0 d.1 d.2 c.requires.3 in
     code_nearest c.args.u (c.args.u / 2 ^ 11) c.args.p d.0 d.1 d.2 c.requires.3
-    c.args.h q.result.hi v.result _ c.wrapping_add_u64.result c.requires.0 c.ranges.h.fits q.ensures.0 v.type_inv v.ensures.value
-    c.wrapping_add_u64.ensures.value (ltb→lt _ _ (holds t)) (room _ _ (le_trans (lit≤ tt) w.0) (lit≤ tt))
+    c.args.h q.result.hi _ _ _ c.requires.0 c.ranges.h.fits q.ensures.0 (omega arith) (omega arith)
+    refl (ltb→lt _ _ (holds t)) (room _ _ (le_trans (lit≤ tt) w.0) (lit≤ tt))

@@ -2,15 +2,9 @@ use Rattle.std.proofs.Common.{◌*◌, ◌/◌, ◌%◌, ◌^◌, sym, ◌∙◌
 use mathlib.Core.Bool.{false≢true}
 use lib.Ieee.{binary64, to_bits}
 use lib.Ieee.Bits.{of_bits-to_bits}
-use Rattle.number.proofs.Order.{holds, equals_itself, not_nan}
+use Rattle.number.proofs.Order.{holds}
 use Rattle.near_roots.proofs.Tested.{lined_ge, code_is_root}
 use Rattle.near_roots.proofs.square_root.is_root.Goals as goal
-
-pub returns-then-g : goal.returns-then-g
-returns-then-g c t = absurd (false≢true t)
-
-pub float_to_bits-c : goal.float_to_bits-c
-float_to_bits-c c = let g = c.args.g in not_nan g (equals_itself g c.if-g.false)
 
 pub returns-then-c-k : goal.returns-then-c-k
 returns-then-c-k c t = absurd (false≢true t)

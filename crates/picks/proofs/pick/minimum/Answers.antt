@@ -17,8 +17,8 @@ negative-requires c = not_nan _ (le_number _ _ (eq_le _ _ (holds c.if-x-y-2.true
 pub returns-then-negative : goal.returns-then-negative
 returns-then-negative c = minimum_negative _ _ c.if-x-y-2.true (sym c.negative.ensures ∙ c.if-negative.true)
 
-pub returns-then-x-y-2 : goal.returns-then-x-y-2
-returns-then-x-y-2 c =
+pub returns-else-negative : goal.returns-else-negative
+returns-else-negative c =
     minimum_other binary64 _ _ (holds c.well_formed.0.1) (holds c.well_formed.1.0.1) c.if-x-y-2.true (sym c.negative.ensures ∙ c.if-negative.false)
 
 pub returns : goal.returns

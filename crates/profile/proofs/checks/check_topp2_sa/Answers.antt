@@ -1,19 +1,10 @@
-use mathlib.Core.Path.{refl}
-use Rattle.refusals.proofs.Chains.{tested}
-use Rattle.refusals.proofs.Outcomes.{or_stop, or_next}
-use Rattle.profile.specs.Profile.{profile_no}
-use Rattle.profile.proofs.Profiles.{lengths_are, entries_told}
+use Rattle.std.proofs.Common.{◌≡◌, sym, rules}
+use Rattle.byte_lists.proofs.Fronts.{length_doubles}
+use Rattle.profile.proofs.Profiles.{lengths_pass}
 use Rattle.profile.proofs.checks.check_topp2_sa.Goals as goal
 
-pub returns-then-number-eq0 : goal.returns-then-number-eq0
-unfolding profile_no
-returns-then-number-eq0 c =
-    let a = c.args in
-    or_next _ _ _ _ (lengths_are a.s.now a.a.now _ c.check_lengths-number.ensures) c.if-number-eq0.true
-    (entries_told _ _ c.in_turn.ensures c.check_rising.ensures (tested 14 c.unless-speeds.ensures c.all_finite.ensures) refl)
-
-pub returns : goal.returns
-unfolding profile_no
-returns c =
-    let a = c.args in
-    or_stop _ _ _ (lengths_are a.s.now a.a.now _ c.check_lengths-number.ensures) c.if-number-eq0.false
+pub invariant_of-result : goal.invariant_of-result
+invariant_of-result c =
+    let s : c.in_ok-stations.stations.bytes.now ≡ c.args.s.now = search rules in
+    let a : c.in_ok-speeds.speeds.bytes.now ≡ c.args.a.now = search rules in
+    record { shaped = rw (s, a, length_doubles c.args.s.now, length_doubles c.args.a.now) (lengths_pass _ _ (sym c.in_ok-check_lengths.ensures)) }

@@ -9,17 +9,15 @@ use Rattle.roots.proofs.hypot.any_length.Goals as goal
 
 pub ordered-requires : goal.ordered-requires
 ordered-requires c =
-    let p = c.pattern_of in
-    let q = c.pattern_of-2 in
-    let s = c.in_order-s in
-    sorted_in (p.result % 2 ^ 63) (q.result % 2 ^ 63) s.result.larger s.result.smaller s.ensures (omega arith) (omega arith)
+    let p = c.pattern_of-a in
+    let q = c.pattern_of-b in
+    sorted_in (p.result % 2 ^ 63) (q.result % 2 ^ 63) c.max.result c.min.result (c.max.ensures, c.min.ensures) (omega arith) (omega arith)
 
 pub returns : goal.returns
 returns c =
-    let p = c.pattern_of in
-    let q = c.pattern_of-2 in
-    let s = c.in_order-s in
+    let p = c.pattern_of-a in
+    let q = c.pattern_of-b in
     c.ordered.ensures
-    ∙ code_sorted (p.result % 2 ^ 63) (q.result % 2 ^ 63) s.result.larger s.result.smaller s.ensures
+    ∙ code_sorted (p.result % 2 ^ 63) (q.result % 2 ^ 63) c.max.result c.min.result (c.max.ensures, c.min.ensures)
     ∙ ap₂ (λ (a b : ℕ). hypot_of binary64 (of_bits binary64 (a % 2 ^ 63)) (of_bits binary64 (b % 2 ^ 63))) p.ensures q.ensures
     ∙ code_unsigned c.args.x c.args.y (holds c.well_formed.0.1) (holds c.well_formed.1.0.1)

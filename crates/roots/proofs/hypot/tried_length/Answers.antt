@@ -1,4 +1,4 @@
 use Rattle.roots.proofs.hypot.tried_length.Goals as goal
 
-pub returns-in-Right : goal.returns-in-Right
-returns-in-Right c = c.in-Right.ensures c.requires.0
+pub returns-in-Some : goal.returns-in-Some
+returns-in-Some c = c.in-Some.ensures c.requires.0

@@ -3,15 +3,14 @@ use lib.Ieee.{binary64, of_bits}
 use lib.Ieee.Bits.{of_bits-to_bits}
 use Rattle.number.proofs.Order.{nought, holds, fails, lt_number, not_nan}
 use Rattle.number.proofs.Downward.{down_above}
-use Rattle.number.proofs.ReadBack.{zero_by_zero}
 use Rattle.roots.specs.Root.{sqrt_of}
 use Rattle.exact_roots.proofs.NearestRoot.{rooted}
 use Rattle.exact_roots.proofs.SqrtCases.{only_infinity, below_zero, neither_side}
 use Rattle.roots.proofs.square_root.sqrt.Goals as goal
 
-pub returns-in-Right : goal.returns-in-Right
-returns-in-Right c =
-    rooted binary64 _ _ c.in-Right.ensures
+pub returns-in-Some : goal.returns-in-Some
+returns-in-Some c =
+    rooted binary64 _ _ c.in-Some.ensures
 
 pub float_to_bits-b : goal.float_to_bits-b
 unfolding of_bits
@@ -33,7 +32,7 @@ returns-then-x c =
 
 pub returns-then-x-2 : goal.returns-then-x-2
 unfolding of_bits
-returns-then-x-2 c = rooted binary64 _ _ (zero_by_zero ∙ below_zero binary64 c.args.x (holds c.if-x-2.true))
+returns-then-x-2 c = rooted binary64 _ _ (below_zero binary64 c.args.x (holds c.if-x-2.true))
 
 pub returns : goal.returns
 unfolding of_bits

@@ -14,8 +14,8 @@ returns-then-w-gt9223372036854775808 c =
     let a = c.args in
     whole_up a.w c.ranges.w.fits c.if-w-gt9223372036854775808.true ∙ ap (λ (x : ℕ). closest a.w (2 ^ x)) (sym c.if-sh-eq64.true)
 
-pub returns-then-sh-eq64 : goal.returns-then-sh-eq64
-returns-then-sh-eq64 c =
+pub returns-else-w-gt9223372036854775808 : goal.returns-else-w-gt9223372036854775808
+returns-else-w-gt9223372036854775808 c =
     let a = c.args in
     whole_down a.w c.ranges.w.fits c.if-w-gt9223372036854775808.false ∙ ap (λ (x : ℕ). closest a.w (2 ^ x)) (sym c.if-sh-eq64.true)
 

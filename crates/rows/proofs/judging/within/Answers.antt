@@ -2,10 +2,10 @@ use Rattle.rows.specs.Judging.{within}
 use Rattle.rows.proofs.Within.{minus_infinity}
 use Rattle.rows.proofs.judging.within.Goals as goal
 
-pub returns-then-infinity-y : goal.returns-then-infinity-y
+pub returns-then-y : goal.returns-then-y
 unfolding within
-returns-then-infinity-y c = simp (← minus_infinity, c.if-infinity-y.true)
+returns-then-y c = simp (← minus_infinity, c.if-y.true)
 
-pub returns : goal.returns
+pub returns-else-y : goal.returns-else-y
 unfolding within
-returns c = simp (← minus_infinity, c.if-infinity-y.false)
+returns-else-y c = rw (← minus_infinity, c.if-y.false)

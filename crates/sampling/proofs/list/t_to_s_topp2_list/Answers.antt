@@ -1,20 +1,15 @@
-use mathlib.Core.Path.{sym, ap, ◌∙◌}
-use native.Mathlib.Omega.{arith}
-use Rattle.refusals.proofs.Outcomes.{refuses, succeeds}
-use Rattle.byte_lists.proofs.Tens.{ten_answered, ten_refused}
-use Rattle.sampling.specs.declared.samples.Sampled.TheVariants.{Done}
+use Rattle.std.proofs.Common.{refl, sym, ap, ◌∙◌, Ok}
+use Rattle.refusals.proofs.Outcomes.{or_next, succeeds}
+use Rattle.refusals.proofs.Refused.{let_through}
+use Rattle.refusals.specs.declared.refusal.Refusal.TheVariants.{NotEights}
+use Rattle.byte_lists.proofs.Tens.{ten_answered}
+use Rattle.sampling.specs.List.{list_no}
 use Rattle.sampling.proofs.Samplings.{list_done}
 use Rattle.sampling.proofs.list.t_to_s_topp2_list.Goals as goal
 
-pub returns-then-number-eq0 : goal.returns-then-number-eq0
-returns-then-number-eq0 c =
-    let none = sym c.refusal-number.ensures ∙ c.if-number-eq0.true in
-    let f = list_done _ _ _ _ _ _ _ none c.t_to_s_topp2_core-r.ensures in
-    ten_answered _ (sym c.all_in_eights.ensures ∙ c.if-all_in_eights.true) (succeeds none (ap Done f.0) f.1)
-
-pub returns-then-all_in_eights : goal.returns-then-all_in_eights
-returns-then-all_in_eights c =
-    ten_answered _ (sym c.all_in_eights.ensures ∙ c.if-all_in_eights.true) (refuses _ c.refusal-number.ensures c.if-number-eq0.false)
-
 pub returns : goal.returns
-returns c = refuses 10 (ten_refused _ _ (sym c.all_in_eights.ensures ∙ c.if-all_in_eights.false)) (omega arith)
+unfolding list_no
+returns c =
+    let none = sym (or_next _ _ _ _ c.in_ok-check.ensures refl c.in_ok-check_samples.ensures) in
+    let f = list_done _ _ _ _ _ _ _ none c.t_to_s_topp2_core.ensures in
+    ten_answered _ (sym c.all_in_eights.ensures ∙ let_through {A = Unit {0}} NotEights _ tt c.in_ok-unless.ensures) (succeeds none (ap Ok f.0) f.1)

@@ -5,6 +5,6 @@ pub returns-then-m-s : goal.returns-then-m-s
 unfolding meet
 returns-then-m-s c = simp (c.if-m-s.true, ← c.middle-m.ensures)
 
-pub returns : goal.returns
+pub returns-else-m-s : goal.returns-else-m-s
 unfolding meet
-returns c = simp (c.if-m-s.false, ← c.middle-m.ensures)
+returns-else-m-s c = simp (c.if-m-s.false, ← c.middle-m.ensures)

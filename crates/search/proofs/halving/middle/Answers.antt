@@ -1,4 +1,4 @@
-use mathlib.Core.Path.{refl}
+use Rattle.std.proofs.Common.{refl}
 use Rattle.search.proofs.halving.middle.Goals as goal
 
 pub returns : goal.returns

@@ -5,6 +5,6 @@ pub returns-then-passes : goal.returns-then-passes
 unfolding moved
 returns-then-passes c = simp c.if-passes.true
 
-pub returns : goal.returns
+pub returns-else-passes : goal.returns-else-passes
 unfolding moved
-returns c = simp c.if-passes.false
+returns-else-passes c = simp c.if-passes.false

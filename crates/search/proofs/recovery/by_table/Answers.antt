@@ -1,5 +1,4 @@
-use mathlib.Core.Path.{ap, ◌∙◌}
-use native.Mathlib.Omega.{arith}
+use Rattle.std.proofs.Common.{ap, ◌∙◌, arith}
 use Rattle.limits.specs.Bounds.{span_of}
 use Rattle.byte_lists.specs.Bytes.{doubles_of}
 use Rattle.byte_lists.proofs.Fronts.{length_doubles}
@@ -12,9 +11,6 @@ returns-then-rows-le768 c =
     let a = c.args in
     let e = length_doubles a.rows.now in
     let room = c.if-rows-le768.true in
-    c.few_rows.ensures
+    c.by_blocks.ensures
     ∙ ap (from_finding a.q.tolerances.feas (span_of a.q))
-    (either_table a.q.tolerances.feas a.q.a_prev (doubles_of a.rows.now) 256 2048 (omega (arith, e, room)) (omega (arith, e, room)))
-
-pub returns : goal.returns
-returns c = c.many_rows.ensures
+    (either_table a.q.tolerances.feas a.q.a_prev (doubles_of a.rows.now) 32 256 (omega (arith, e, room)) (omega (arith, e, room)))

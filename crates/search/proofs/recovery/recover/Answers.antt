@@ -1,10 +1,7 @@
-use mathlib.Core.Path.{◌∙◌}
+use Rattle.std.proofs.Common.{◌∙◌}
 use Rattle.byte_lists.specs.Bytes.{doubles_of}
 use Rattle.search.proofs.Answering.{outside_table}
 use Rattle.search.proofs.recovery.recover.Goals as goal
-
-pub returns-then-is_inside : goal.returns-then-is_inside
-returns-then-is_inside c = c.by_cap.ensures
 
 pub returns : goal.returns
 returns c =

@@ -3,5 +3,4 @@ use Rattle.sloping.proofs.slopes.slope.Goals as goal
 
 pub returns : goal.returns
 unfolding slope
-returns c =
-    rw (c.finite_at.ensures, c.finite_at-2.ensures, c.finite_at-3.ensures, c.finite_at-4.ensures)
+returns c = rw (c.get.ensures, c.get-2.ensures, c.get-3.ensures, c.get-4.ensures)

@@ -1,55 +1,40 @@
-use Prim.Native.Nat.{◌+◌, ◌-◌, ◌/◌}
-use mathlib.Core.Path.{sym, ap, ◌∙◌}
-use native.Mathlib.Omega.{arith}
-use lib.ListN.{length}
+use Rattle.std.proofs.Common.{sym, ap, ◌∙◌, ◌+◌, drop, Some}
 use Rattle.rows.specs.Rows.{fold}
-use Rattle.rows.specs.Judging.{judged}
-use Rattle.certificates.specs.RowByRow.{counted}
-use Rattle.certificates.specs.declared.certificate.Certificate.{Certificate}
-use Rattle.tables.specs.Table.{blocks_from}
+use Rattle.certificates.specs.Certificate.{Certificate}
+use Rattle.certificates.specs.declared.certificate.Figures.{Figures}
+use Rattle.certificates.proofs.RowLoop.{broken_ends, fits_counts}
 use Rattle.tables.specs.ByBlocks.{counted_block}
-use Rattle.tables.proofs.Blocks.{blocks_all, fold_on, fold_done}
+use Rattle.tables.proofs.Blocks.{fold_on, fold_done}
 use Rattle.tables.proofs.Tables.{failed_stays}
 use Rattle.tables.proofs.certificate.certify_rows.Goals as goal
 
-pub loop-k-init : goal.loop-k-init
-loop-k-init c =
+pub returns-in_err-judge : goal.returns-in_err-judge
+returns-in_err-judge c =
     let a = c.args in
-    (omega arith, ap (fold (counted_block a.tol a.x) _) (blocks_all a.table.now))
-
-pub returns-in-Failed : goal.returns-in-Failed
-returns-in-Failed c =
-    let a = c.args in
-    let l = a.table.now in
-    let n = length l / 8 in
-    let k = c.loop-k.k in
+    let l = c.loop-b in
+    let left = drop (l.b-index + 1) a.table.now in
     let f = counted_block a.tol a.x in
-    let s = c.loop-k.c in
-    let e = c.count-c.ensures ∙ ap (counted s) (c.judge.ensures ∙ ap (judged a.tol a.x) c.block_at.ensures) in
-    sym (fold_on l k n f s (omega arith)
-    ∙ ap (λ (t : Certificate). fold f t (blocks_from l (k + 1) (n - (k + 1)))) (sym e ∙ c.in-Failed.is)
-    ∙ failed_stays a.tol a.x (blocks_from l (k + 1) (n - (k + 1))))
-    ∙ c.loop-k.invariant.1
+    let broken = broken_ends a.tol a.x l.worst _ (sym c.judge.ensures ∙ c.in_err-judge.was) in
+    c.from_residual.ensures
+    ∙ sym (fold_on a.table.now l.b-index f (Some l.worst) _ c.loop-b-test.true
+    ∙ ap (λ (t : Certificate). fold f t left) (sym broken)
+    ∙ failed_stays a.tol a.x left)
+    ∙ l.invariant
+    ∙ ap (λ (w : Figures). fold f (Some w) a.table.now) c.start-worst.ensures
 
-pub loop-k-preserved : goal.loop-k-preserved
-loop-k-preserved c =
+pub loop-b-preserved : goal.loop-b-preserved
+loop-b-preserved c =
     let a = c.args in
-    let l = a.table.now in
-    let n = length l / 8 in
-    let k = c.loop-k.k in
+    let l = c.loop-b in
     let f = counted_block a.tol a.x in
-    let s = c.loop-k.c in
-    let e = c.count-c.ensures ∙ ap (counted s) (c.judge.ensures ∙ ap (judged a.tol a.x) c.block_at.ensures) in (
-      omega arith,
-      ap (λ (t : Certificate). fold f t (blocks_from l (k + 1) (n - (k + 1)))) e ∙ (sym (fold_on l k n f s (omega arith)) ∙ c.loop-k.invariant.1),
-    )
+    let fits = ap (λ (w : Figures). Some w) c.with-worst.ensures ∙ fits_counts a.tol a.x l.worst _ _ (sym c.judge.ensures ∙ c.in_ok-judge.was) in
+    ap (λ (t : Certificate). fold f t (drop (l.b-index + 1) a.table.now)) fits
+    ∙ sym (fold_on a.table.now l.b-index f (Some l.worst) _ c.loop-b-test.true)
+    ∙ l.invariant
 
 pub returns : goal.returns
 returns c =
     let a = c.args in
-    let l = a.table.now in
-    let n = length l / 8 in
-    let k = c.loop-k.k in
+    let l = c.loop-b in
     let f = counted_block a.tol a.x in
-    let s = c.loop-k.c in
-    sym (fold_done l k n f s (omega arith)) ∙ c.loop-k.invariant.1
+    sym (fold_done a.table.now l.b-index f (Some l.worst) c.loop-b-test.false) ∙ l.invariant ∙ ap (λ (w : Figures). fold f (Some w) a.table.now) c.start-worst.ensures

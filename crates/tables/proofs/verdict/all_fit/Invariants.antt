@@ -1,13 +1,7 @@
-use Prim.Native.Nat.{◌≤◌, ◌-◌, ◌/◌}
-use mathlib.Core.Path.{◌≡◌}
-use lib.ListN.{length}
+use Rattle.std.proofs.Common.{◌≡◌, drop}
 use Rattle.rows.specs.Rows.{all}
-use Rattle.tables.specs.Table.{blocks_from, blocks_of}
 use Rattle.tables.specs.ByBlocks.{fits_block}
 use Rattle.tables.proofs.verdict.all_fit.Given as goal
 
-abbrev pub invariant-loop-k : goal.invariant-loop-k
-invariant-loop-k l = (l.k ≤ length l.table / 8) × (all (fits_block l.tol l.x) (blocks_from l.table l.k (length l.table / 8 - l.k)) ≡ all (fits_block l.tol l.x) (blocks_of l.table))
-
-abbrev pub decreases-loop-k : goal.decreases-loop-k
-decreases-loop-k l = length l.table / 8 - l.k
+abbrev pub invariant-loop-b : goal.invariant-loop-b
+invariant-loop-b l = let p = fits_block l.tol l.x in all p (drop l.b-index l.table) ≡ all p l.table

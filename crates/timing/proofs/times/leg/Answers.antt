@@ -1,4 +1,4 @@
-use mathlib.Core.Path.{refl}
+use Rattle.std.proofs.Common.{refl}
 use Rattle.timing.specs.Times.{leg}
 use Rattle.timing.proofs.times.leg.Goals as goal
 

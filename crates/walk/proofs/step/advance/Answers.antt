@@ -1,4 +1,7 @@
 use Rattle.walk.proofs.step.advance.Goals as goal
 
-pub returns-in-Certified : goal.returns-in-Certified
-returns-in-Certified c = simp c.in-Certified.is
+pub returns-in-Ok : goal.returns-in-Ok
+returns-in-Ok c = simp c.in-Ok.is
+
+pub returns-in-Err : goal.returns-in-Err
+returns-in-Err c = simp c.in-Err.is

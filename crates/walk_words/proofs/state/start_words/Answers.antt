@@ -1,4 +1,4 @@
-use mathlib.Core.Path.{ap, ◌∙◌}
+use Rattle.std.proofs.Common.{ap, ◌∙◌}
 use Rattle.walk_words.specs.Words.{words_of}
 use Rattle.walk_words.proofs.state.start_words.Goals as goal
 

@@ -1,6 +1,5 @@
-use borrow.Author.Tests.{eq-eqb, ne_eqb}
+use Rattle.std.proofs.lemmas.Bool.{eq-eqb, ne_eqb}
 use Rattle.walk_words.specs.Words.{stepped_bytes}
-use borrow.Author.Rules.{rules}
 use Rattle.walk_words.proofs.step.step_bytes.Goals as goal
 
 pub returns-then-rows-eq0 : goal.returns-then-rows-eq0
@@ -9,4 +8,4 @@ returns-then-rows-eq0 c = simp (eq-eqb _ _ c.if-rows-eq0.true, ← c.step.ensure
 
 pub returns : goal.returns
 unfolding stepped_bytes
-returns c = search (rules, ne_eqb)
+returns c = simp (ne_eqb _ _ c.if-rows-eq0.false)

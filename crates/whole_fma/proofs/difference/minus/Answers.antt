@@ -24,7 +24,6 @@ returns c =
     let a = c.args.a in
     let b = c.args.b in
     let w = c.borrow-w in
-    let r = c.wrapping_sub_u64 in
-    minus_is a.hi a.lo b.hi b.lo w.result (2 ^ 64) (omega arith) (omega arith) w.ensures r.result
+    minus_is a.hi a.lo b.hi b.lo w.result (2 ^ 64) (omega arith) (omega arith) w.ensures _
     (minus_high a.hi a.lo b.hi b.lo w.result (2 ^ 64) (omega arith) (omega arith) w.ensures c.requires.1)
-    (minus_low r.result a.lo b.lo w.result r.type_inv (omega arith) (omega arith) r.ensures.value w.ensures)
+    (minus_low _ a.lo b.lo w.result (omega arith) (omega arith) (omega arith) (omega arith) w.ensures)

@@ -6,7 +6,7 @@ use Rattle.operands.specs.SignAndSize.{is_special, is_normal}
 use Rattle.operands.proofs.Operands.{all_true, normal_not_special}
 use Rattle.whole_fma.proofs.Specials.{nan_operand, special_factor, zero_addend, infinite_addend}
 use Rattle.whole_fma.proofs.one_rounding.in_whole_numbers.Goals as goal
-use Rattle.whole_fma.proofs.one_rounding.in_whole_numbers.Goals.{then-not-all_normal+else-special+else-special-2+else-special-3, else-not-all_normal}
+use Rattle.whole_fma.proofs.one_rounding.in_whole_numbers.Goals.{then-special-via-then-special, then-special-via-else-special+then-special-2, then-not-all_normal+else-special+else-special-2+else-special-3, else-not-all_normal}
 
 -- an `f64`, which the format holds
 module _ (x : Float) (F : fits binary64 x ≡ true) where
@@ -28,32 +28,31 @@ returns-then-some_nan c =
 pub returns-then-special : goal.returns-then-special
 returns-then-special c =
     let a = c.args in
-    special_factor binary64 a.x a.y a.z (inl (told a.x c.well_formed.0.1 c.special.result _ c.special.ensures c.if-special.true))
-
-pub returns-then-special-2 : goal.returns-then-special-2
-returns-then-special-2 c =
-    let a = c.args in
-    let y = c.special-then-not-all_normal in
-    special_factor binary64 a.x a.y a.z (inr (told a.y c.well_formed.1.0.1 y.result _ y.ensures c.if-special-2.true))
+    elim c.then-special.branch [
+      | then-special-via-then-special w ↦ special_factor binary64 a.x a.y a.z (inl (told a.x c.well_formed.0.1 c.special.result _ c.special.ensures w.if-special.true))
+      | then-special-via-else-special+then-special-2 w ↦
+          let y = w.special-else-special in
+          special_factor binary64 a.x a.y a.z (inr (told a.y c.well_formed.1.0.1 y.result _ y.ensures w.if-special-2.true))
+    ]
 
 pub returns-then-z : goal.returns-then-z
 unfolding of_bits
 returns-then-z c =
     let a = c.args in
     let x = c.special in
-    let y = c.special-then-not-all_normal in
+    let y = c.special-else-special in
     zero_addend binary64 a.x a.y a.z
     (told a.x c.well_formed.0.1 x.result _ x.ensures c.if-special.false)
     (told a.y c.well_formed.1.0.1 y.result _ y.ensures c.if-special-2.false)
     c.if-z.true
 
-pub returns-then-special-3 : goal.returns-then-special-3
+pub returns-else-z : goal.returns-else-z
 unfolding of_bits
-returns-then-special-3 c =
+returns-else-z c =
     let a = c.args in
     let x = c.special in
-    let y = c.special-then-not-all_normal in
-    let z = c.special-then-not-all_normal-2 in
+    let y = c.special-else-special in
+    let z = c.special-then-not-all_normal in
     infinite_addend binary64 a.x a.y a.z
     (told a.x c.well_formed.0.1 x.result _ x.ensures c.if-special.false)
     (told a.y c.well_formed.1.0.1 y.result _ y.ensures c.if-special-2.false)
@@ -66,8 +65,8 @@ finite-requires c =
     elim c.if-not-all_normal.branch [
       | then-not-all_normal+else-special+else-special-2+else-special-3 w ↦ (
         sym w.special.ensures ∙ w.if-special.false,
-        sym w.special-then-not-all_normal.ensures ∙ w.if-special-2.false,
-        sym w.special-then-not-all_normal-2.ensures ∙ w.if-special-3.false,
+        sym w.special-else-special.ensures ∙ w.if-special-2.false,
+        sym w.special-then-not-all_normal.ensures ∙ w.if-special-3.false,
       )
       | else-not-all_normal w ↦
           let n =

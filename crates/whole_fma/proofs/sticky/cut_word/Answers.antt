@@ -5,8 +5,8 @@ use Rattle.whole_fma.proofs.sticky.cut_word.Goals as goal
 pub returns-then-w-eq0 : goal.returns-then-w-eq0
 returns-then-w-eq0 c = omega arith ∙ word_far c.args.w c.args.sh c.ranges.w.fits c.if-sh-gt63.true
 
-pub returns-then-sh-gt63 : goal.returns-then-sh-gt63
-returns-then-sh-gt63 c = omega arith ∙ word_far c.args.w c.args.sh c.ranges.w.fits c.if-sh-gt63.true
+pub returns-else-w-eq0 : goal.returns-else-w-eq0
+returns-else-w-eq0 c = omega arith ∙ word_far c.args.w c.args.sh c.ranges.w.fits c.if-sh-gt63.true
 
 pub returns-then-q-sh : goal.returns-then-q-sh
 returns-then-q-sh c = word_kept c.args.w c.args.sh c.ranges.w.fits c.if-q-sh.true

@@ -2,6 +2,7 @@ use Rattle.std.proofs.Common.{◌^◌, sym, ◌∙◌, le_of_lt, arith, pow_pos,
 use Rattle.whole_fma.specs.TwoLimbs.{whole}
 use Rattle.whole_fma.proofs.Windowed.{joined_like, joined_less, joined_more, joined_none, plus_whole, none_left, some_low, some_high}
 use Rattle.whole_fma.proofs.window.joined.Goals as goal
+use Rattle.whole_fma.proofs.window.joined.Goals.{else-d-eq0-via-then-d-eq0+else-d-eq0-2, else-d-eq0-via-else-d-eq0}
 
 pub returns-then-s-t : goal.returns-then-s-t
 returns-then-s-t c =
@@ -32,16 +33,13 @@ returns-then-d-eq0-2 c =
     joined_none s.s s.t (whole s.a) (whole s.b) (whole d.result) c.if-s-t.false
     (none_left d.result.hi d.result.lo (2 ^ 64) c.if-d-eq0.true c.if-d-eq0-2.true) d.ensures
 
-pub returns-else-d-eq0-2 : goal.returns-else-d-eq0-2
-returns-else-d-eq0-2 c =
+pub returns : goal.returns
+returns c =
     let s = c.args in
     let d = c.minus-d in
     joined_more s.s s.t (whole s.a) (whole s.b) (whole d.result) c.if-s-t.false
-    (some_low d.result.hi d.result.lo (2 ^ 64) c.if-d-eq0-2.false) d.ensures
-
-pub returns-else-d-eq0 : goal.returns-else-d-eq0
-returns-else-d-eq0 c =
-    let s = c.args in
-    let d = c.minus-d in
-    joined_more s.s s.t (whole s.a) (whole s.b) (whole d.result) c.if-s-t.false
-    (some_high d.result.hi d.result.lo (2 ^ 64) (pow_pos 64) c.if-d-eq0.false) d.ensures
+    (elim c.else-d-eq0.branch [
+      | else-d-eq0-via-then-d-eq0+else-d-eq0-2 w ↦ some_low d.result.hi d.result.lo (2 ^ 64) w.if-d-eq0-2.false
+      | else-d-eq0-via-else-d-eq0 w ↦ some_high d.result.hi d.result.lo (2 ^ 64) (pow_pos 64) w.if-d-eq0.false
+    ])
+    d.ensures

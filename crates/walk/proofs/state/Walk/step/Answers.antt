@@ -1,5 +1,4 @@
-use borrow.Author.Tests.{lt-ltb, le-ltb}
-use borrow.Author.Rules.{rules}
+use Rattle.std.proofs.lemmas.Bool.{lt-ltb, le-ltb}
 use Rattle.walk.specs.Walking.{stepped, step_answer}
 use Rattle.walk.proofs.state.Walk.step.Goals as goal
 
@@ -15,4 +14,4 @@ returns-then-self c =
 
 pub returns : goal.returns
 unfolding stepped step_answer
-returns c = search (rules, le-ltb)
+returns c = simp (le-ltb _ _ c.if-self.false)
