@@ -4,13 +4,10 @@ use mathlib.Core.Path.{◌≡◌, sym, ◌∙◌}
 use mathlib.Core.List.{List}
 use lib.Ieee.{Float}
 use Rattle.loops.specs.Upto.{filled}
-use Rattle.refusals.proofs.Chains.{only_done, only_kept}
+use Rattle.refusals.proofs.Chains.{only_done}
 use Rattle.byte_lists.specs.Bytes.{byte_of}
 use Rattle.byte_lists.specs.Replied.{Replied}
 
-module _ {m number : ℕ} {f : ℕ → Float} {n : ℕ} {old : List ℕ} (e : m ≡ number) where
-  pub replies : {new : List ℕ} → m ≡ 0 → new ≡ filled (byte_of f) (8 * n) old → Replied number f n old m new
-  replies z g = record { number_is = e; left = g ∙ sym (only_done number _ _ (sym e ∙ z)) }
-
-  pub declines : (m ≡ 0 → ⊥) → Replied number f n old m old
-  declines h = record { number_is = e; left = sym (only_kept number _ _ (λ z. h (e ∙ z))) }
+pub replies : {m number : ℕ} {f : ℕ → Float} {n : ℕ} {old new : List ℕ} → m ≡ number → m ≡ 0 → new ≡ filled (byte_of f) (8 * n) old
+    → Replied number f n old m new
+replies {number = number} e z g = record { number_is = e; left = g ∙ sym (only_done number _ _ (sym e ∙ z)) }

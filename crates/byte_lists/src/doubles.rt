@@ -1,7 +1,7 @@
 // Eight bytes for each double, low byte first.
-ghost use Rattle.std.specs.Prelude.{◌≡◌, ◌&&◌, ◌+◌, ◌%◌, ◌≤◌, ◌<◌, ◌^◌, eqb, length};
+ghost use Rattle.std.specs.Prelude.{◌≡◌, ◌&&◌, ◌+◌, ◌%◌, ◌≤◌, ◌<◌, eqb, length};
 ghost use Rattle.loops.specs.Upto.{at};
-ghost use Rattle.byte_lists.specs.Bytes.{four_at, word_at, pattern_at, doubles_of, four_put, word_put, double_put};
+ghost use Rattle.byte_lists.specs.Bytes.{word_at, pattern_at, doubles_of, word_put, double_put};
 
 use patterns::pattern::{double_of, pattern_of};
 

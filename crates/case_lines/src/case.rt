@@ -1,8 +1,8 @@
 // One case: the usual call of an entry with the line's changes, and whether all that it returns and leaves is as the line says.
 ghost use Rattle.std.specs.Prelude.{◌≡◌, length};
 
-use crate::letters;
-use crate::lists::{HEAD, apply, bytes_of};
+use crate::letters::{self, Letter};
+use crate::lists::{apply, bytes_of};
 use crate::usual::prepare;
 use byte_lists::doubles::pattern_at;
 use calls::comparing::{agrees, mark};
@@ -18,7 +18,7 @@ fn sheet() -> [u8; 622_848]
 }
 
 // Numbers or a list, from a place of the case on; and the place where they end.
-fn lay(case: &mut [u8], from: usize, list: u8, bytes: usize, line: &[u8]) -> usize {
+fn lay(case: &mut [u8], from: usize, list: Letter, bytes: usize, line: &[u8]) -> usize {
     let end = from.saturating_add(bytes).min(case.len());
     if from <= end {
         prepare(&mut case[from..end], list, line);
@@ -47,17 +47,17 @@ fn lay_call(case: &mut [u8], number: u64, n: u64, line: &[u8]) {
 // The numbers 17 to 21: what the call must return, and the lent numbers after it.
 fn lay_told(case: &mut [u8], number: u64, line: &[u8]) {
     put(case, 17, number);
-    lay(case, 144, letters::LENT, 32, line);
+    lay(case, 144, Letter::Lent, 32, line);
 }
 
 // What is lent stays past the front; of the front the line says the entries, or some of them.
 fn is_expected(out: &[u8], line: &[u8], whole: &mut [u8]) -> bool {
     mark(whole);
-    let n = bytes_of(line, letters::FRONT, 0)
+    let n = bytes_of(line, Letter::Front, 0)
         .min(out.len())
         .min(whole.len());
     whole[..n].copy_from_slice(&out[..n]);
-    apply(whole, letters::ENTRIES, line);
+    apply(whole, Letter::Entries, line);
     *out == *whole
 }
 
@@ -75,7 +75,7 @@ fn is_answered(case: &[u8], line: &[u8], out: &mut [u8]) -> bool {
 fn answered(case: &[u8], line: &[u8]) -> bool {
     let mut out = sheet();
     let room = letters::room(Entry::try_from(pattern_at(case, 1)).ok());
-    let n = bytes_of(line, letters::LEN_OUT, room).min(out.len());
+    let n = bytes_of(line, Letter::LenOut, room).min(out.len());
     is_answered(case, line, &mut out[..n])
 }
 
@@ -87,7 +87,7 @@ fn built(case: &mut [u8], head: &[u8], line: &[u8]) -> bool {
 
 pub(crate) fn holds(line: &[u8]) -> bool {
     let mut head = [0u8; 4096];
-    apply(&mut head, HEAD, line);
+    apply(&mut head, Letter::Head, line);
     let mut case = sheet();
     built(&mut case, &head, line)
 }

@@ -2,81 +2,102 @@
 // stations, speeds and times have.
 use calls::entry::Entry;
 
-// The numbers that the entry is passed; those of recovery, and the station that a step of a walk comes to, have letters of their own.
-pub(crate) const PASSED: u8 = b'p';
+// Those in capitals begin a length: how many doubles, and how many bytes more.
+#[derive(Clone, Copy, PartialEq, Eq)]
+pub(crate) enum Letter {
+    // What stands before the first letter.
+    Head,
+    // p: the numbers that the entry is passed; those of recovery have q, and the station that a step of a walk comes to has c.
+    Passed,
+    Request,
+    Station,
+    // w: the eight words that a step of a walk goes from. A start is passed the first seven.
+    Walk,
+    // r, s, a, t, x: recovery's rows; stations, squared speeds, times, samples.
+    Rows,
+    S,
+    A,
+    T,
+    X,
+    // f: a cut file, each number a byte of it.
+    File,
+    // S: of rows, stations or a file; A, T, X: of speeds, of times, of samples; O: of the output.
+    LenS,
+    LenA,
+    LenT,
+    LenX,
+    LenOut,
+    // What is left. n: the lent numbers; u: how many doubles are the output's front; e: its entries.
+    Lent,
+    Front,
+    Entries,
+}
 
-pub(crate) const REQUEST: u8 = b'q';
+// A byte that is no list's letter.
+#[derive(Clone, Copy, PartialEq, Eq)]
+pub(crate) struct NoLetter;
 
-pub(crate) const STATION: u8 = b'c';
+impl TryFrom<u8> for Letter {
+    type Error = NoLetter;
 
-// A walk: the eight words that a step goes from. A start is passed the first seven.
-pub(crate) const WALK: u8 = b'w';
-
-// Recovery's rows; stations, squared speeds, times, samples.
-pub(crate) const ROWS: u8 = b'r';
-
-pub(crate) const S: u8 = b's';
-
-pub(crate) const A: u8 = b'a';
-
-pub(crate) const T: u8 = b't';
-
-pub(crate) const X: u8 = b'x';
-
-// A cut file, each number a byte of it.
-pub(crate) const FILE: u8 = b'f';
-
-// The length of rows, stations or a file, of speeds, of times, of samples, of the output: how many doubles, and how many bytes more.
-pub(crate) const LEN_S: u8 = b'S';
-
-pub(crate) const LEN_A: u8 = b'A';
-
-pub(crate) const LEN_T: u8 = b'T';
-
-pub(crate) const LEN_X: u8 = b'X';
-
-pub(crate) const LEN_OUT: u8 = b'O';
-
-// What is left: the lent numbers; how many doubles are the output's front; its entries.
-pub(crate) const LENT: u8 = b'n';
-
-pub(crate) const FRONT: u8 = b'u';
-
-pub(crate) const ENTRIES: u8 = b'e';
+    fn try_from(c: u8) -> Result<Self, NoLetter> {
+        match c {
+            b'p' => Ok(Letter::Passed),
+            b'q' => Ok(Letter::Request),
+            b'c' => Ok(Letter::Station),
+            b'w' => Ok(Letter::Walk),
+            b'r' => Ok(Letter::Rows),
+            b's' => Ok(Letter::S),
+            b'a' => Ok(Letter::A),
+            b't' => Ok(Letter::T),
+            b'x' => Ok(Letter::X),
+            b'f' => Ok(Letter::File),
+            b'S' => Ok(Letter::LenS),
+            b'A' => Ok(Letter::LenA),
+            b'T' => Ok(Letter::LenT),
+            b'X' => Ok(Letter::LenX),
+            b'O' => Ok(Letter::LenOut),
+            b'n' => Ok(Letter::Lent),
+            b'u' => Ok(Letter::Front),
+            b'e' => Ok(Letter::Entries),
+            _ => Err(NoLetter),
+        }
+    }
+}
 
 // A list of a call: its letter, that of its length, and how many doubles it has where the line does not say.
 #[derive(Clone, Copy)]
 pub(crate) struct List {
-    pub(crate) letter: u8,
-    pub(crate) length: u8,
+    pub(crate) letter: Letter,
+    pub(crate) length: Letter,
     pub(crate) usual: u64,
 }
 
-pub(crate) fn passed(entry: Option<Entry>) -> u8 {
+pub(crate) fn passed(entry: Option<Entry>) -> Letter {
     match entry {
-        Some(Entry::Recover) => REQUEST,
-        Some(Entry::WalkStart) => WALK,
-        Some(Entry::WalkStep) => STATION,
-        _ => PASSED,
+        Some(Entry::Recover) => Letter::Request,
+        Some(Entry::WalkStart) => Letter::Walk,
+        Some(Entry::WalkStep) => Letter::Station,
+        _ => Letter::Passed,
     }
 }
 
-fn first_list(entry: Option<Entry>) -> u8 {
+fn first_list(entry: Option<Entry>) -> Letter {
     match entry {
-        Some(Entry::Recover | Entry::WalkStep) => ROWS,
-        Some(Entry::CutFileSection) => FILE,
-        _ => S,
+        Some(Entry::Recover | Entry::WalkStep) => Letter::Rows,
+        Some(Entry::CutFileSection) => Letter::File,
+        _ => Letter::S,
     }
 }
 
 fn second_list(entry: Option<Entry>, n: u64) -> List {
     let (letter, usual) = match entry {
-        Some(Entry::WalkStep) => (WALK, 8),
-        _ => (A, n),
+        Some(Entry::WalkStep) => (Letter::Walk, 8),
+        _ => (Letter::A, n),
     };
     List {
         letter,
-        length: LEN_A,
+        length: Letter::LenA,
         usual,
     }
 }
@@ -86,18 +107,18 @@ pub(crate) fn lists(entry: Option<Entry>, n: u64) -> [List; 4] {
     [
         List {
             letter: first_list(entry),
-            length: LEN_S,
+            length: Letter::LenS,
             usual: n,
         },
         second_list(entry, n),
         List {
-            letter: T,
-            length: LEN_T,
+            letter: Letter::T,
+            length: Letter::LenT,
             usual: n,
         },
         List {
-            letter: X,
-            length: LEN_X,
+            letter: Letter::X,
+            length: Letter::LenX,
             usual: 3,
         },
     ]

@@ -1,18 +1,15 @@
 // Lists of numbers as bytes, and what a line of text says of them: letters, each with the numbers of its list from the first place on, or from the place
 // that @ names.
-use crate::letters;
+use crate::letters::Letter;
 use crate::numerals::number;
 use byte_lists::doubles::pattern_at;
 use words::bytes::put;
 use words::text::{first_byte, part_of, spaces_end, word_end};
 
-// What stands before the first letter.
-pub(crate) const HEAD: u8 = 0;
-
-// The letter that was read last, and the place of the next number.
+// The letter that was read last, if it is a list's, and the place of the next number.
 #[derive(Clone, Copy)]
 struct Spot {
-    letter: u8,
+    letter: Option<Letter>,
     place: u64,
 }
 
@@ -23,8 +20,8 @@ fn put_byte(b: &mut [u8], k: usize, n: u64) {
     }
 }
 
-fn lay(b: &mut [u8], list: u8, k: usize, n: u64) {
-    if list == letters::FILE {
+fn lay(b: &mut [u8], list: Letter, k: usize, n: u64) {
+    if list == Letter::File {
         put_byte(b, k, n);
     } else {
         put(b, k, n);
@@ -32,8 +29,8 @@ fn lay(b: &mut [u8], list: u8, k: usize, n: u64) {
 }
 
 // A number goes to the next place of the list that its letter stands for.
-fn enter(b: &mut [u8], list: u8, w: &[u8], spot: Spot) {
-    if first_byte(w) <= b'9' && spot.letter == list {
+fn enter(b: &mut [u8], list: Letter, w: &[u8], spot: Spot) {
+    if first_byte(w) <= b'9' && spot.letter == Some(list) {
         lay(b, list, spot.place as usize, number(w));
     }
 }
@@ -49,13 +46,16 @@ fn after(w: &[u8], spot: Spot) -> Spot {
             place: number(w),
             ..spot
         },
-        letter => Spot { letter, place: 0 },
+        c => Spot {
+            letter: Letter::try_from(c).ok(),
+            place: 0,
+        },
     }
 }
 
-pub(crate) fn apply(b: &mut [u8], list: u8, line: &[u8]) {
+pub(crate) fn apply(b: &mut [u8], list: Letter, line: &[u8]) {
     let mut spot = Spot {
-        letter: HEAD,
+        letter: Some(Letter::Head),
         place: 0,
     };
     let mut i = spaces_end(line, 0);
@@ -80,7 +80,7 @@ fn bytes(doubles: u64, more: u64) -> usize {
 }
 
 // A list's length in bytes.
-pub(crate) fn bytes_of(line: &[u8], list: u8, usual: u64) -> usize {
+pub(crate) fn bytes_of(line: &[u8], list: Letter, usual: u64) -> usize {
     let mut b = [0; 16];
     put(&mut b, 0, usual);
     apply(&mut b, list, line);

@@ -2,12 +2,12 @@
 use patterns::pattern::pattern_of;
 use words::text::first_byte;
 
-// The digits read so far; after a point also the power of ten that they are to be divided by, which is 0 before it.
+// The digits read so far; after a point also the power of ten that they are to be divided by.
 #[derive(Clone, Copy)]
 struct Partial {
     value: u64,
     hex: bool,
-    unit: u64,
+    unit: Option<u64>,
 }
 
 fn digit(c: u8) -> u64 {
@@ -19,20 +19,20 @@ fn digit(c: u8) -> u64 {
 }
 
 // No number of a line is so long that digits are lost.
-fn shifted(value: u64, hex: bool) -> u64 {
+fn shifted(value: u64, hex: bool) -> Option<u64> {
     let base = if hex { 16 } else { 10 };
     if value < 0x1000_0000_0000_0000 {
-        base * value
+        Some(base * value)
     } else {
-        0
+        None
     }
 }
 
 fn grown(n: Partial, c: u8) -> Partial {
     Partial {
-        value: shifted(n.value, n.hex).wrapping_add(digit(c)),
-        hex: n.hex,
-        unit: shifted(n.unit, false),
+        value: shifted(n.value, n.hex).unwrap_or(0).wrapping_add(digit(c)),
+        unit: n.unit.and_then(|unit| shifted(unit, false)),
+        ..n
     }
 }
 
@@ -41,12 +41,12 @@ fn read(n: Partial, c: u8) -> Partial {
         b'#' => Partial {
             value: 0,
             hex: true,
-            unit: 0,
+            unit: None,
         },
         b'.' => Partial {
-            value: n.value,
             hex: false,
-            unit: 1,
+            unit: Some(1),
+            ..n
         },
         _ => grown(n, c),
     }
@@ -56,7 +56,7 @@ fn digits(word: &[u8]) -> Partial {
     let none = Partial {
         value: 0,
         hex: false,
-        unit: 0,
+        unit: None,
     };
     word.iter().fold(none, |n, c| read(n, *c))
 }
@@ -64,9 +64,9 @@ fn digits(word: &[u8]) -> Partial {
 // Decimal digits; hexadecimal ones after a #; with a point the double's pattern, with a sign before it the negative one's.
 pub(crate) fn number(word: &[u8]) -> u64 {
     let n = digits(word);
-    if n.unit == 0 {
+    let Some(unit) = n.unit else {
         return n.value;
-    }
-    let x = std::num::nearest_u64_to_f64(n.value) / std::num::nearest_u64_to_f64(n.unit);
+    };
+    let x = std::num::nearest_u64_to_f64(n.value) / std::num::nearest_u64_to_f64(unit);
     pattern_of(if first_byte(word) == b'-' { -x } else { x })
 }

@@ -1,5 +1,5 @@
 // The usual call, which a line changes.
-use crate::letters;
+use crate::letters::Letter;
 use crate::lists::apply;
 use calls::calling::BEFORE;
 use patterns::pattern::pattern_of;
@@ -37,15 +37,15 @@ fn station(k: u64) -> f64 {
 
 // t0 0 and dt 1; rows and a file's bytes 0; s 0, 1, 2, ..; a 0, 4, 0, 4, ..; t 0, 1, 2, ..; x 0, 1/32, 2/32, ..: so b is 2, -2, 2, ..,
 // and the times from 0 on are t.
-fn double(list: u8, k: u64) -> f64 {
+fn double(list: Letter, k: u64) -> f64 {
     match list {
-        letters::PASSED => if k == 1 { 1.0 } else { 0.0 },
-        letters::REQUEST => request(k),
-        letters::STATION => station(k),
-        letters::WALK => walk(k),
-        letters::ROWS | letters::FILE => 0.0,
-        letters::A => if k % 2 == 0 { 0.0 } else { 4.0 },
-        letters::X => 0.03125 * std::num::nearest_u64_to_f64(k),
+        Letter::Passed => if k == 1 { 1.0 } else { 0.0 },
+        Letter::Request => request(k),
+        Letter::Station => station(k),
+        Letter::Walk => walk(k),
+        Letter::Rows | Letter::File => 0.0,
+        Letter::A => if k % 2 == 0 { 0.0 } else { 4.0 },
+        Letter::X => 0.03125 * std::num::nearest_u64_to_f64(k),
         _ => std::num::nearest_u64_to_f64(k),
     }
 }
@@ -60,21 +60,21 @@ fn lent(k: u64) -> u64 {
     }
 }
 
-fn usual(list: u8, k: u64) -> u64 {
+fn usual(list: Letter, k: u64) -> u64 {
     match list {
-        letters::LENT => lent(k),
-        letters::WALK if k == 7 => 1,
+        Letter::Lent => lent(k),
+        Letter::Walk if k == 7 => 1,
         _ => pattern_of(double(list, k)),
     }
 }
 
-fn fill(b: &mut [u8], list: u8) {
+fn fill(b: &mut [u8], list: Letter) {
     for k in 0..b.len() / 8 {
         put(b, k, usual(list, k as u64));
     }
 }
 
-pub(crate) fn prepare(b: &mut [u8], list: u8, line: &[u8]) {
+pub(crate) fn prepare(b: &mut [u8], list: Letter, line: &[u8]) {
     fill(b, list);
     apply(b, list, line);
 }

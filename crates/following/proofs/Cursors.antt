@@ -16,9 +16,6 @@ pub interval_le : (t : List Float) (x : Float) → interval_of t x ≤ length t 
 unfolding interval_of
 interval_le t x = first_le _ (length t - 1)
 
-pub interval_fits : (t : List Float) (x : Float) (k n : ℕ) → k ≡ interval_of t x → length t ≡ n → k ≤ n
-interval_fits t x k n e h = omega (arith, interval_le t x)
-
 -- every interval before that of x ends below x
 pub ends_below : (t : List Float) (x : Float) (i : ℕ) → i < interval_of t x → lt (at t (i + 1)) x ≡ true
 unfolding interval_of

@@ -1,5 +1,5 @@
 // t to s: the station at each time of a list or of an even grid, by one pass for both, straight into the output's bytes.
-ghost use Rattle.std.specs.Prelude.{◌≡◌, ◌+◌, ◌-◌, ◌*◌, ◌/◌, ◌^◌, ◌<◌, ◌≤◌, min, length};
+ghost use Rattle.std.specs.Prelude.{◌≡◌, ◌+◌, ◌-◌, ◌/◌, ◌^◌, ◌<◌, ◌≤◌, min, length};
 ghost use Rattle.byte_lists.specs.Bytes.{doubles_of};
 ghost use Rattle.following.specs.Places.{interval_of, is_before, is_inside, station_at};
 ghost use Rattle.following.specs.Following.{Passed, Standing, stays, Ready, Followed, Bounded, more_inside, tallied};

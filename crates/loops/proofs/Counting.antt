@@ -33,19 +33,9 @@ every_at p i zero h k = absurd (not-suc-le-zero k)
 every_at p i (suc n) h k =
     ⊎_elim (λ e. rw e (and_right (every p n) (p n) h)) (λ l. every_at p i n (and_left (every p n) (p n) h) l) (eq-or-lt_of_le (le_of_suc-le-suc k))
 
-pub every_more : (p : ℕ → Bool) (i : ℕ) → every p i ≡ true → p i ≡ true → every p (i + 1) ≡ true
-unfolding every
-every_more p i h k = rw (add-one, h, k)
-
 pub every_next : (p : ℕ → Bool) (i : ℕ) → every p (i + 1) ≡ every p i && p i
 unfolding every
 every_next p i = rw add-one
-
-pub every_fails : (p : ℕ → Bool) (i n : ℕ) → i < n → p i ≡ false → every p n ≡ false
-unfolding every
-every_fails p i zero h k = absurd (not-suc-le-zero h)
-every_fails p i (suc n) h k =
-    ⊎_elim (λ e. rw (← e, k) (and_false (every p i))) (λ l. rw (every_fails p i n l k)) (eq-or-lt_of_le (le_of_suc-le-suc h))
 
 pub every_none : (p : ℕ → Bool) → every p 0 ≡ true
 unfolding every

@@ -11,7 +11,7 @@ use Rattle.refusals.specs.Most.{most_stations}
 use Rattle.limits.specs.declared.request.Station.{Station}
 use Rattle.limits.specs.declared.request.Request.{Request}
 use Rattle.search.specs.Answer.{Answer}
-use Rattle.std.specs.Prelude.{Ok, Err}
+use Rattle.std.specs.Prelude.{Err}
 use Rattle.topp2_ra.specs.Recovery.{recovered}
 use Rattle.passing.specs.Demand.{Sound}
 use Rattle.byte_lists.specs.Bytes.{in_eights, doubles_of}

@@ -1,6 +1,6 @@
--- Floats that are no NaN: a whole number's, and one that equals itself.
-use Rattle.std.proofs.Common.{◌≡◌, ℕ, ◌^◌, ◌<◌, ◌≤◌, true, false, not, T, pos, sym, refl, ◌∙◌, true≢false, arith, le→leb}
-use lib.Ieee.{Float, nan, inf, fin, binary64, eq, fits, is_nan, in_float, of_int, to_bits, round}
+-- A whole number as a float: no NaN, and its pattern lies below an infinity's.
+use Rattle.std.proofs.Common.{ℕ, ◌^◌, ◌<◌, ◌≤◌, true, false, not, T, pos, true≢false, arith, le→leb}
+use lib.Ieee.{Float, nan, inf, fin, binary64, fits, is_nan, in_float, of_int, to_bits, round}
 use lib.Ieee.Back.{round_whole}
 use lib.Ieee.Exact.{HasValue}
 use lib.Ieee.Fits.{round-fits}
@@ -20,9 +20,3 @@ whole_pattern n h = go (round binary64 false n 1) (round-fits binary64 false n 1
     go (inf s) F v = absurd v
     go (fin true m e) F v = absurd (true≢false v.0)
     go (fin false m e) F v = let p = pattern_of binary64 false m e F in (unfold is_nan in tt, omega (arith, p.1, p.2))
-
--- `x == x` holds of no NaN
-pub same_number : (x : Float) → eq x x ≡ true → T (not (is_nan x))
-same_number nan e = absurd (true≢false (sym e ∙ (unfold eq in refl)))
-same_number (inf s) e = unfold is_nan in tt
-same_number (fin s m i) e = unfold is_nan in tt

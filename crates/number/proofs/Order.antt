@@ -2,8 +2,7 @@
 -- `lt` is what `le` the other way round excludes; and what lies between finite values is finite. Assumes nothing.
 use Rattle.std.proofs.Common.{◌≡◌, ℕ, ◌+◌, ◌*◌, ◌<◌, ◌≤◌, Bool, true, false, not, T, ltb, ◌⊎◌, ℤ, pos, sym, refl, subst, inl, inr, le_of_eq, arith, ltb→lt, nltb→le}
 use mathlib.Core.Bool.{beq}
-use lib.Ieee.{Float, nan, inf, fin, up, down, neg, le, lt, eq, ne, is_nan}
-use lib.Ieee.Compare.{nan_differs}
+use lib.Ieee.{Float, nan, inf, fin, up, down, neg, le, lt, eq, is_nan}
 use lib.Ieee.Scale.{finite}
 use lib.Ieee.Positive.{den, den_pos}
 use Rattle.number.proofs.Fractions.{or_l, or_r, or_split, plus_of, minus_of, plus_part, minus_part}
@@ -45,12 +44,6 @@ no_nan (fin s m e) h = refl
 
 pub not_nan : (x : Float) → T (number x) → T (not (is_nan x))
 not_nan x h = rw (no_nan x h) tt
-
--- `x != x` tells a NaN; that it holds of nothing else is lib.Ieee.Compare's
-pub equals_itself : (x : Float) → ne x x ≡ false → T (number x)
-equals_itself nan h = absurd (fails h (holds nan_differs))
-equals_itself (inf s) h = tt
-equals_itself (fin s m e) h = tt
 
 -- +0
 abbrev pub nought : Float

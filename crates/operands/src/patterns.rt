@@ -1,5 +1,5 @@
 // Three patterns taken apart: which of them have a leading digit, and their significands with that digit at bit 52.
-ghost use Rattle.std.specs.Prelude.{◌≡◌, true, ◌&&◌, from_bits};
+ghost use Rattle.std.specs.Prelude.{◌≡◌, ◌&&◌, from_bits};
 ghost use Rattle.std.specs.Float.{binary64};
 ghost use Rattle.operands.specs.SignAndSize.{is_special, is_normal, Unpacked};
 

@@ -5,10 +5,6 @@ use Prim.Native.Nat.{ℕ, zero, suc}
 use native.Mathlib.Nat.{suc-ne-zero}
 use Rattle.refusals.specs.Refusals.{unless, ◌or◌, only_if}
 
-pub or_some : (n later : ℕ) → (n ≡ 0 → ⊥) → n ≡ n or later
-or_some zero later h = absurd (h refl)
-or_some (suc n) later h = refl
-
 pub only_done : {A : Type 0} (n : ℕ) (new old : A) → n ≡ 0 → only_if n new old ≡ new
 only_done n new old h = rw h
 

@@ -4,7 +4,7 @@ use mathlib.Core.Path.{◌≡◌, refl, sym, ap, ◌∙◌}
 use mathlib.Core.List.{List}
 use Rattle.loops.specs.Upto.{filled}
 use Rattle.refusals.specs.Refusals.{◌or◌}
-use Rattle.refusals.proofs.Chains.{only_done, only_kept}
+use Rattle.refusals.proofs.Chains.{only_done}
 use Rattle.refusals.specs.Outcome.{answered, Outcome}
 
 -- a chain of refusals whose first part gave `number`: it is the answer, or the rest is
@@ -18,11 +18,6 @@ or_next number first rest later e h l = rw (← e, h) l
 pub answered_refused : {A : Type 0} (done : A) (refused : ℕ → A) (number m : ℕ) → m ≡ number → (m ≡ 0 → ⊥) → refused m ≡ answered done refused number
 answered_refused done refused zero m e h = absurd (h e)
 answered_refused done refused (suc number) m e h = ap refused e
-
-pub refuses : {A E : Type 0} {done : A} {refused : ℕ → A} {number : ℕ} {entry : ℕ → E} {n : ℕ} {old : List E} (m : ℕ) → m ≡ number → (m ≡ 0 → ⊥)
-    → Outcome done refused number entry n old (refused m) old
-refuses {done = done} {refused = refused} {number = number} m e h =
-    record { answer = answered_refused done refused number m e h; left = sym (only_kept number _ _ (λ z. h (e ∙ z))) }
 
 pub succeeds : {A E : Type 0} {done : A} {refused : ℕ → A} {number : ℕ} {entry : ℕ → E} {n : ℕ} {old : List E} {r : A} {new : List E} → number ≡ 0 → r ≡ done
     → new ≡ filled entry n old → Outcome done refused number entry n old r new

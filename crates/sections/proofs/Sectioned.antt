@@ -1,5 +1,5 @@
 -- What is known of a section: it lies in the file past its place and its payload has no fault, or it is refused by one of the file's numbers.
-use Rattle.std.proofs.Common.{ℕ, zero, suc, ◌+◌, ◌*◌, ◌-◌, ◌≤◌, ◌<◌, ◌≡◌, refl, sym, subst, Bool, true, false, List, length, get_or}
+use Rattle.std.proofs.Common.{ℕ, zero, suc, ◌+◌, ◌*◌, ◌-◌, ◌≤◌, ◌<◌, ◌≡◌, refl, Bool, true, false, List, length, get_or}
 use Rattle.std.proofs.Common.{Result, Ok, Err, leb, eqb, arith}
 use native.Mathlib.Nat.{suc-ne-zero}
 use borrow.Author.Tests.{leb-true}
@@ -102,6 +102,3 @@ module _ (l : List ℕ) (at : ℕ) where
   section_found previous =
       onward_found at (read_at l at (length l)) (λ kind next. kind_at l previous kind next) (known l at (length l))
       (λ kind next a b. kind_found previous kind next a)
-
-pub placed_lies : (l : List ℕ) (at previous kind start end : ℕ) → Ok (placed kind start end) ≡ section_at l at previous → Lies l at kind start end
-placed_lies l at previous kind start end e = subst (Sectioned l at) (sym e) (section_found l at previous)

@@ -1,5 +1,5 @@
 // a to b: half the slope of the squared speed over each pair of stations, straight from the bytes of the lists to those of the output.
-ghost use Rattle.std.specs.Prelude.{◌≡◌, ◌+◌, ◌*◌, ◌-◌, ◌/◌, ◌<◌, ◌≤◌, length, IfOk};
+ghost use Rattle.std.specs.Prelude.{◌≡◌, ◌+◌, ◌*◌, ◌-◌, ◌/◌, ◌<◌, ◌≤◌, length};
 ghost use Rattle.refusals.specs.Refusal.{number_in};
 ghost use Rattle.loops.specs.Upto.{filled};
 ghost use Rattle.byte_lists.specs.Bytes.{doubles_of, byte_of};

@@ -3,30 +3,12 @@
 use Rattle.std.proofs.Common.{◌≡◌, ℕ, zero, suc, ◌+◌, ◌-◌, ◌*◌, ◌<◌, Bool, true, false, cond, not, ◌&&◌, ◌||◌, T, eqb, ◌⊎◌, ℤ, pos, sym, refl, ap, ◌∙◌, inl, inr, zero-lt-suc, mul-pos, zero-mul, arith, ne_eqb, eqb-true}
 use mathlib.Core.Bool.{beq, false≢true}
 use borrow.Author.Tests.{eqb-false}
-use lib.Ieee.{Float, nan, inf, fin, Format, binary32, binary64, up, down, unlike, round, sum, add, mul, eq, ne, is_nan}
+use lib.Ieee.{Float, nan, inf, fin, Format, binary32, binary64, up, down, unlike, round, sum, add, mul, eq, is_nan}
 use lib.Ieee.Fits.{up_pos, down_pos}
 use lib.Ieee.Scale.{round_same}
-use lib.Ieee.Compare.{differs_from_itself, nan_differs}
 use Rattle.whole_fma.specs.MultiplyAdd.{inf_plus, fma_of}
 use Rattle.operands.specs.SignAndSize.{is_special}
 use Rattle.whole_fma.proofs.Sums.{sum_same, sum_at, exact_like, exact_more}
-
--- ---- NaN
-pub nan_test : (x : Float) → ne x x ≡ is_nan x
-nan_test nan = nan_differs ∙ unfold is_nan in refl
-nan_test (inf true) = unfold ne is_nan in refl
-nan_test (inf false) = unfold ne is_nan in refl
-nan_test (fin s m e) = go (ne (fin s m e) (fin s m e)) (λ t. differs_from_itself (fin s m e) t)
-  where
-    go : (b : Bool) → (T b → fin s m e ≡ nan) → b ≡ is_nan (fin s m e)
-    go true h = sym (ap is_nan (h tt) ∙ unfold is_nan in refl)
-    go false h = unfold is_nan in refl
-
-pub not_nan : (x : Float) → eq x x ≡ true → is_nan x ≡ false
-not_nan x e = sym (nan_test x) ∙ unfold ne in ap not e
-
-pub is_nan_lem : (x : Float) → eq x x ≡ false → is_nan x ≡ true
-is_nan_lem x e = sym (nan_test x) ∙ unfold ne in ap not e
 
 -- ---- a factor that is special
 
