@@ -22,6 +22,8 @@ impl<'a> Iterator for Sections<'a> {
 
     ghost remaining = { item_count (λ s. sections_left s.file.now s.at s.previous) };
 
+    // Two loops go by it, and a file has few sections: it is built into both.
+    #[inline(always)]
     #[tactic(auto, using(crate::proofs::Going::left_none, crate::proofs::Going::left_placed, crate::proofs::Going::left_refused))]
     fn next(&mut self) -> Option<Result<Section, Refusal>> {
         if self.file.len() <= self.at {

@@ -64,6 +64,8 @@ fn turned(piece: Piece, p: Timed<'_>, old: usize, k: usize) -> Piece
     if k == old { piece } else { piece_at(p, k) }
 }
 
+// To the interval of x. A list's pass and a grid's each call it for every time that does not stay: it is built into both.
+#[inline]
 pub(crate) fn advance(w: Cursor, p: Timed<'_>, x: f64) -> Cursor
     requires { Standing (doubles_of p.s.now) (doubles_of p.a.now) (doubles_of p.t.now) w }
     ensures { (result.interval ≡ interval_of (doubles_of p.entry.t.now) x) × (result.time ≡ x)

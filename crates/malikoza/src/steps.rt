@@ -58,7 +58,7 @@ pub fn malikoza_walk_step(
         tried.old tried.new }
 {
     let stepped = step_words(*walk, lower, upper, cap, rows);
-    leave(stepped, walk);
     let answer = stepped.answer;
+    leave(stepped.walk, answer, walk);
     tell(answer, speed, worst_normalized, worst_raw, tried)
 }

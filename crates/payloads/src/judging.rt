@@ -1,11 +1,12 @@
 // A payload's first fault.
 ghost use Rattle.std.specs.Prelude.{◌≡◌, ◌*◌, eqb, get_or};
-ghost use Rattle.refusals.specs.Refusal.{number_in, numbered};
+ghost use Rattle.refusals.specs.Refusal.{number_in, number_by, numbered_by};
 ghost use Rattle.payloads.specs.Payload.{count_number, grid_number, payload_number};
 
 use crate::form::Form;
 use groups::{Fault, Number};
 use refusals::refusal::Refusal;
+use refusals::refusing::Refusing;
 
 fn are_eights(bytes: u64, count: u64) -> bool
     ensures { result ≡ eqb bytes (8 * count) }
@@ -42,18 +43,22 @@ fn grid_number(file: &[u8], start: usize, end: usize) -> Result<(), Refusal>
     Refusal::PayloadForm.unless(byte(file, start + 16) <= 1)
 }
 
-// Of the payload from one place of a file to another.
+// Of the payload from one place of a file to another. The refusal of what is no kind may be any.
 #[tactic(auto, unfolding(crate::specs::Payload::payload_number))]
-pub fn payload_number(
+pub fn payload_number<E: Refusing>(
     file: &[u8],
-    form: Result<Form, Refusal>,
+    form: Result<Form, E>,
     start: usize,
     end: usize,
-) -> Result<(), Refusal>
-    ensures { number_in result ≡ payload_number file.now (numbered form) start end }
+) -> Result<(), E>
+    ensures { number_by E.value result ≡ payload_number file.now (numbered_by E.value form) start end }
 {
-    match form? {
+    let judged = match form? {
         Form::Listed(limit) => count_number(limit, end, groups::read(file, start, end)),
         Form::Grid => grid_number(file, start, end),
+    };
+    match judged {
+        Ok(()) => Ok(()),
+        Err(refusal) => Err(E::of(refusal)),
     }
 }

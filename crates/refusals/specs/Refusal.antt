@@ -46,12 +46,19 @@ number_of PayloadForm = 45
 number_of KindAbsent = 46
 number_of WalkFull = 61
 
--- of an answer: 0 where it is none
-abbrev pub number_in : {A : Type 0} → Result A Refusal → ℕ
-number_in (Ok x) = 0
-number_in (Err r) = number_of r
+-- the number of an answer, by the number of what refuses: 0 where it is answered
+abbrev pub number_by : {A E : Type 0} → (E → ℕ) → Result A E → ℕ
+number_by number (Ok x) = 0
+number_by number (Err e) = number e
 
--- the answer, with the number in place of the refusal
+-- the answer, with that number in place of what refuses
+abbrev pub numbered_by : {A E : Type 0} → (E → ℕ) → Result A E → Result A ℕ
+numbered_by number (Ok x) = Ok x
+numbered_by number (Err e) = Err (number e)
+
+-- both where what refuses is a refusal by its name
+abbrev pub number_in : {A : Type 0} → Result A Refusal → ℕ
+number_in = number_by number_of
+
 abbrev pub numbered : {A : Type 0} → Result A Refusal → Result A ℕ
-numbered (Ok x) = Ok x
-numbered (Err r) = Err (number_of r)
+numbered = numbered_by number_of

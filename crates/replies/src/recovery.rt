@@ -1,11 +1,12 @@
 // Recovery on a byte list of rows, and its answer told to lent numbers.
 ghost use Rattle.std.specs.Prelude.{◌≡◌};
-ghost use Rattle.refusals.specs.Refusal.{numbered};
+ghost use Rattle.refusals.specs.Refusal.{numbered, numbered_by};
 ghost use Rattle.replies.specs.AnswerTold.{recovered_bytes, Told};
 
 use limits::request::Request;
 use patterns::pattern::pattern_of;
 use refusals::refusal::Refusal;
+use refusals::refusing::Refusing;
 use search::answer::Certified;
 use topp2_ra::recovery::recover_forward_intersection;
 
@@ -17,15 +18,15 @@ pub fn recover_bytes(q: Request, rows: &[u8]) -> Result<Certified, Refusal>
     recover_forward_intersection(q, rows)
 }
 
-// The number of an answer; its values go to the lent numbers.
-pub fn tell(
-    a: Result<Certified, Refusal>,
+// The number of an answer, which may be any; its values go to the lent numbers.
+pub fn tell<E: Refusing>(
+    a: Result<Certified, E>,
     speed: &mut u64,
     worst_normalized: &mut u64,
     worst_raw: &mut u64,
     tried: &mut u64,
 ) -> u64
-    ensures { Told (numbered a) result
+    ensures { Told (numbered_by E.value a) result
         speed.old speed.new
         worst_normalized.old worst_normalized.new
         worst_raw.old worst_raw.new
@@ -39,6 +40,6 @@ pub fn tell(
             *tried = c.tried;
             0
         }
-        Err(refusal) => refusal.number(),
+        Err(refusal) => refusal.value(),
     }
 }

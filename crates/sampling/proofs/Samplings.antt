@@ -1,11 +1,11 @@
 -- What passing the checks says: those of both modes, and those of a list.
-use Rattle.std.proofs.Common.{ℕ, ◌*◌, ◌/◌, ◌≤◌, min, ◌≡◌, sym, true, List, arith, leb-true, eqb-true, eqb, leb, ltb, length, Float}
+use Rattle.std.proofs.Common.{ℕ, ◌*◌, ◌/◌, ◌≤◌, min, ◌≡◌, sym, ap, ◌∙◌, true, cond, List, arith, leb-true, eqb-true, eqb, leb, ltb, length, Float}
 use Rattle.std.specs.Float.Ieee.{lt}
 use native.Mathlib.Nat.{min-eq_left}
 use Rattle.std.specs.Float.Ieee.Scale.{finite}
 use Rattle.refusals.specs.Most.{most_samples}
 use Rattle.refusals.specs.Refusals.{unless, ◌or◌}
-use Rattle.refusals.proofs.Chains.{or_none, unless_none, or_assoc}
+use Rattle.refusals.proofs.Chains.{or_none, unless_none, or_assoc, or_cond}
 use Rattle.loops.specs.Entries.{every_entry, every_pair}
 use Rattle.sampling.specs.Samples.{timed_no}
 use Rattle.loops.specs.Upto.{filled, at}
@@ -61,3 +61,12 @@ list_done s a t x old r new h p =
 pub timed_last : (s a t : List Float) → timed_no s a t ≡ (profile_no s a or speed_no a) or (unless (eqb (length t) (length s)) 20 or unless (every_entry finite t) 21 or unless (every_pair lt t) 22)
 unfolding timed_no
 timed_last s a t = sym (or_assoc (profile_no s a) (speed_no a) _)
+
+-- a list of times or samples, as the test of a rising list tells it, alone and before later numbers
+module _ (x : List Float) (infinite falls : ℕ) (h : infinite ≡ 0 → ⊥) where
+  pub rising_alone : cond (every_entry finite x) (unless (every_pair lt x) falls) infinite ≡ unless (every_entry finite x) infinite or unless (every_pair lt x) falls
+  rising_alone = or_cond (every_entry finite x) infinite (unless (every_pair lt x) falls) h
+
+  pub rising_told : (later : ℕ)
+      → cond (every_entry finite x) (unless (every_pair lt x) falls) infinite or later ≡ unless (every_entry finite x) infinite or unless (every_pair lt x) falls or later
+  rising_told later = ap (λ (n : ℕ). n or later) rising_alone ∙ or_assoc (unless (every_entry finite x) infinite) (unless (every_pair lt x) falls) later

@@ -1,7 +1,6 @@
 -- A state read back from its words is the same state; so what a start or a step leaves reads as the walk that it made. Assumes nothing.
 use Rattle.std.proofs.Common.{ℕ, ◌+◌, ◌≡◌, refl, Bool, true, false, cond, Result, Ok, Err, is_ok, List, T, get_or}
-use Rattle.refusals.specs.Refusal.{numbered}
-use Rattle.refusals.specs.declared.refusal.Refusal.{Refusal}
+use Rattle.refusals.specs.Refusal.{numbered_by}
 use lib.Ieee.{Float, binary64, fits, of_bits, to_bits}
 use lib.Ieee.Bits.{of_bits-fits, of_bits-to_bits}
 use Rattle.limits.specs.declared.request.Station.{Station}
@@ -57,6 +56,6 @@ module _ (old : List ℕ) (lower upper cap : ℕ) where
       go false = refl
 
 -- what a refusal leaves of the words
-pub left_alone : (a : Result Certified Refusal) (w : Walk) (old : List ℕ) → is_ok a ≡ false → old ≡ words_after (numbered a) w old
-left_alone (Ok c) w old h = cc
-left_alone (Err e) w old h = refl
+pub left_alone : {E : Type 0} (number : E → ℕ) (a : Result Certified E) (w : Walk) (old : List ℕ) → is_ok a ≡ false → old ≡ words_after (numbered_by number a) w old
+left_alone number (Ok c) w old h = cc
+left_alone number (Err e) w old h = refl
